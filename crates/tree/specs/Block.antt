@@ -1,0 +1,69 @@
+-- A node by its level and its index in the level, left to right from 0, and document 01's terms once more in these coordinates, in which
+-- all but "held" are inequalities between pages. `proofs/Bridge.antt` shows that they say the same; nothing but proofs uses them.
+use mathlib.Core.Path.{_≡_}
+use mathlib.Core.Bool.{Bool, true, false}
+use Prim.Native.Nat.{ℕ, suc, _+_, _-_, _*_, _^_, _≤_, _<_}
+use Rattle.tree.specs.Held.{count}
+
+pub record Block : Type 0 where
+  pub level : ℕ
+  pub index : ℕ
+
+abbrev pub first : Block → ℕ
+first b = b .index * 2 ^ b .level
+
+abbrev pub past : Block → ℕ
+past b = suc (b .index) * 2 ^ b .level
+
+-- the block's number in a tree of height h
+abbrev pub node : ℕ → Block → ℕ
+node h b = 2 ^ (h - b .level) + b .index
+
+abbrev pub Blocks : Type 0
+Blocks = Block → Bool
+
+-- the blocks lie in a tree of height h
+abbrev pub BWithin : ℕ → Blocks → Type 0
+BWithin h B = (b : Block) → B b ≡ true → past b ≤ 2 ^ h
+
+-- the number held at a level; no level of the tree has more than 2^h nodes
+unfoldable pub bsizes : ℕ → Blocks → ℕ → ℕ
+unfolding count
+bsizes h B l = count (2 ^ h) (λ k. B (record { level = l; index = k }))
+
+-- two blocks share a page: one is the other, or contains it
+pub record Meet (a b : Block) : Type 0 where
+  pub a-first : first a < past b
+  pub b-first : first b < past a
+
+-- a lies below b
+pub record Inside (a b : Block) : Type 0 where
+  pub lower : a .level < b .level
+  pub from : first b ≤ first a
+  pub to : past a ≤ past b
+
+abbrev pub BLegal : Blocks → Type 0
+BLegal B = (a b : Block) → B a ≡ true → B b ≡ true → Meet a b → a ≡ b
+
+abbrev pub BFree : Blocks → Block → Type 0
+BFree B u = (b : Block) → B b ≡ true → ¬ Meet b u
+
+abbrev pub BDense : Blocks → Type 0
+BDense B = (u v : Block) → BFree B u → B v ≡ true → u .level ≡ v .level → ¬ (past u ≤ first v)
+
+pub record BTail (B : Blocks) (u t : Block) : Type 0 where
+  pub held : B t ≡ true
+  pub lower : t .level < u .level
+  pub right : past u ≤ first t
+
+pub record BMeager (B : Blocks) (x : Block) : Type 0 where
+  pub not-held : ¬ (B x ≡ true)
+  pub one : Block
+  pub one-held : B one ≡ true
+  pub one-below : Inside one x
+  pub only : (b : Block) → B b ≡ true → Inside b x → b ≡ one
+
+pub record BSafe (B : Blocks) : Type 0 where
+  pub dense : BDense B
+  pub one-tail : (u t t′ : Block) → B u ≡ true → BTail B u t → BTail B u t′ → t ≡ t′
+  pub no-meager : (u x : Block) → B u ≡ true → x .level ≡ u .level → BMeager B x → ¬ (past x ≤ first u)
