@@ -3,7 +3,10 @@
 use mathlib.Core.Path.{_≡_}
 use mathlib.Core.Bool.{Bool, true, false}
 use Prim.Native.Nat.{ℕ, suc, _+_, _-_, _*_, _^_, _≤_, _<_}
-use Rattle.tree.specs.Held.{count}
+use lib.Dec.{leb, ltb}
+use Rattle.tree.specs.Node.{depth}
+use Rattle.tree.specs.Node as Node
+use Rattle.tree.specs.Held.{Nodes, both, count}
 
 pub record Block : Type 0 where
   pub level : ℕ
@@ -19,8 +22,19 @@ past b = suc (b .index) * 2 ^ b .level
 abbrev pub node : ℕ → Block → ℕ
 node h b = 2 ^ (h - b .level) + b .index
 
+-- the block of a node of the tree
+abbrev pub blockOf : ℕ → ℕ → Block
+blockOf h n = record { level = Node.level h n; index = n - 2 ^ depth n }
+
 abbrev pub Blocks : Type 0
 Blocks = Block → Bool
+
+-- a set of nodes as a set of blocks, and back
+abbrev pub blocksOf : ℕ → Nodes → Blocks
+blocksOf h A b = both (leb (past b) (2 ^ h)) (A (node h b))
+
+abbrev pub nodesOf : ℕ → Blocks → Nodes
+nodesOf h B n = both (both (ltb 0 n) (ltb n (2 ^ suc h))) (B (blockOf h n))
 
 -- the blocks lie in a tree of height h
 abbrev pub BWithin : ℕ → Blocks → Type 0

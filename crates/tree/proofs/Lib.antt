@@ -1,0 +1,6 @@
+pub mod Depth
+pub mod Align
+pub mod Coordinates
+pub mod Under
+pub mod Bridge
+pub mod Sets
