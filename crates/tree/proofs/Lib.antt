@@ -4,3 +4,5 @@ pub mod Coordinates
 pub mod Under
 pub mod Bridge
 pub mod Sets
+pub mod Sum
+pub mod Room

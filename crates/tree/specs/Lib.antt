@@ -1,3 +1,4 @@
 pub mod Node
 pub mod Held
 pub mod Block
+pub mod Pages
