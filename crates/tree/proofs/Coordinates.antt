@@ -63,7 +63,7 @@ pub node-past : (h : ℕ) (b : Block) → past b ≤ 2 ^ h → pastPage h (node 
 node-past h b p = ap₂ (λ (f l : ℕ). f + 2 ^ l) (node-first h b p) (node-level h b p) ∙ omega arith
 
 -- the other way: each node of the tree is the node of its block
-depth-le : (h n : ℕ) → InTree h n → depth n ≤ h
+pub depth-le : (h n : ℕ) → InTree h n → depth n ≤ h
 depth-le h n t = go (λ (q : h < depth n). omega (arith, pow-mono q, depth-highest n (t .above-zero) .low, t .in-height))
   where
     go : ¬ (h < depth n) → depth n ≤ h

@@ -6,3 +6,4 @@ pub mod Bridge
 pub mod Sets
 pub mod Sum
 pub mod Room
+pub mod Sizes

@@ -17,7 +17,7 @@ covering h B p = count (suc h) (λ l. B (over p l))
 
 -- ---- by blocks
 
-abbrev heldAt : Blocks → ℕ → ℕ → ℕ
+abbrev pub heldAt : Blocks → ℕ → ℕ → ℕ
 heldAt B l k = one-if (B (record { level = l; index = k }))
 
 -- the pages of the tree are those of 2^(h − l) blocks of level l
@@ -28,7 +28,7 @@ pages-by-level h l q = rw (← pow-add 2 (h - l) l, sub-add-cancel q)
 index-in-tree : (h l k : ℕ) → l ≤ h → past (record { level = l; index = k }) ≤ 2 ^ h → k < 2 ^ (h - l)
 index-in-tree h l k q r = le-of-mul-le-mul-right (rw (pages-by-level h l q) r) (pow-pos l)
 
-held-in-tree : (h : ℕ) (B : Blocks) → BWithin h B → (l : ℕ) → l ≤ h → bsizes h B l ≡ sum (2 ^ (h - l)) (heldAt B l)
+pub held-in-tree : (h : ℕ) (B : Blocks) → BWithin h B → (l : ℕ) → l ≤ h → bsizes h B l ≡ sum (2 ^ (h - l)) (heldAt B l)
 unfolding bsizes
 held-in-tree h B within l q = count-as-sum _ _ ∙ sum-stops (2 ^ (h - l)) (2 ^ h) (heldAt B l) (pow-mono (sub-le h l)) none-from
   where
