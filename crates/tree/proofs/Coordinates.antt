@@ -8,7 +8,7 @@ use native.Mathlib.Decide.{decLt}
 use lib.Pow.{pow-add, pow-pos, pow-mono, pow-lt}
 use Rattle.tree.specs.Node.{InTree, Child, Under, child, deeper, depth, level, firstPage, pastPage, LeftOf}
 use Rattle.tree.specs.Block.{Block, first, past, node, blockOf}
-use Rattle.tree.proofs.Depth.{Highest, depth-highest, depth-is}
+use Rattle.tree.proofs.Highest.{Highest, depth-highest, depth-is}
 use Rattle.tree.proofs.Align.{first<past, scale}
 
 -- a block whose pages lie in the tree: its level is at most the height, and its index is below the level's number of nodes

@@ -1,4 +1,4 @@
-pub mod Depth
+pub mod Highest
 pub mod Align
 pub mod Coordinates
 pub mod Under

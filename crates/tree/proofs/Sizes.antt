@@ -12,7 +12,7 @@ use Rattle.tree.specs.Node.{depth, level}
 use Rattle.tree.specs.Held.{Nodes, both, one-if, count, sizes}
 use Rattle.tree.specs.Block.{Block, past, node, Blocks, bsizes}
 use Rattle.tree.specs.Pages.{sum}
-use Rattle.tree.proofs.Depth.{Highest, depth-highest}
+use Rattle.tree.proofs.Highest.{Highest, depth-highest}
 use Rattle.tree.proofs.Coordinates.{level-le, past-le, depth-le, node-level}
 use Rattle.tree.proofs.Bridge.{SameSet}
 use Rattle.tree.proofs.Sets.{both-left, both-right}

@@ -8,7 +8,7 @@ use native.Mathlib.Decide.{decLt}
 use lib.Pow.{pow-add, pow-pos, pow-mono}
 use Rattle.tree.specs.Node.{InTree, Child, Under, child, deeper, LeftOf}
 use Rattle.tree.specs.Block.{Block, first, past, node, Inside}
-use Rattle.tree.proofs.Depth.{Highest, highest-unique}
+use Rattle.tree.proofs.Highest.{Highest, highest-unique}
 use Rattle.tree.proofs.Align.{first<past, scale}
 use Rattle.tree.proofs.Coordinates.{level-le, index-lt, node-highest, node-first, node-past}
 

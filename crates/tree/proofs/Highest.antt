@@ -4,6 +4,7 @@ use mathlib.Core.Logic.{_⊎_, inl, inr}
 use Prim.Native.Nat.{ℕ, zero, suc, _+_, _-_, _*_, _/_, _^_, _≤_, _<_}
 use native.Mathlib.Omega.{arith}
 use native.Mathlib.Nat.{lt-irrefl, pow-suc, le-antisymm, lt-of-not-le, not-le-of-lt}
+use lib.Count.{leadingZeros, leading-top}
 use lib.Pow.{pow-mono, pow-pos}
 use Rattle.tree.specs.Node.{stepsUp, depth, oneMoreIf}
 
@@ -44,3 +45,10 @@ highest-unique d d′ n b b′ = le-antisymm (highest-le d d′ n b b′) (highe
 
 pub depth-is : (d n : ℕ) → Highest d n → depth n ≡ d
 depth-is d n b = highest-unique (depth n) d n (depth-highest n (omega (arith, b .low, pow-pos d))) b
+
+-- the zeros above the highest one bit, that bit, and the bits below it make all k bits
+pub leading-depth : (k n : ℕ) → 0 < n → n < 2 ^ k → leadingZeros k n + suc (depth n) ≡ k
+leading-depth k n p q =
+    let t = leading-top k n p q in
+    let e : depth n ≡ t .0 = depth-is (t .0) n (record { low = t .2; high = t .3 }) in
+    omega (arith, t .1)
