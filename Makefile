@@ -1,0 +1,9 @@
+# `make` builds and runs the main job; `make test` is the gate.
+.PHONY: run test
+
+run:
+	@rt check layouts >target/build.log 2>&1 || { cat target/build.log; exit 1; }
+	@target/bin/layouts
+
+test:
+	@bash .ci/run
