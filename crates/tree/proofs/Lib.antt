@@ -7,3 +7,5 @@ pub mod Sets
 pub mod Sum
 pub mod Room
 pub mod Sizes
+pub mod Count
+pub mod Unique
