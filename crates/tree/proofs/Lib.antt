@@ -9,3 +9,4 @@ pub mod Room
 pub mod Sizes
 pub mod Count
 pub mod Unique
+pub mod Theorems
