@@ -1,0 +1,3 @@
+pub mod Edit
+pub mod Apart
+pub mod Moves
