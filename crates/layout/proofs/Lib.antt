@@ -1,0 +1,4 @@
+pub mod Edit
+pub mod Apart
+pub mod Moves
+pub mod Ends
