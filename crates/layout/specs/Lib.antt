@@ -1,3 +1,5 @@
 pub mod Layout
 pub mod Change
 pub mod Runs
+pub mod Set
+pub mod Leaving

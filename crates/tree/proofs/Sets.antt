@@ -26,7 +26,7 @@ set-of-blocks h A w =
       same = λ b p. rw (le-leb (past b) (2 ^ h) p);
     }
 
-nodes-of-in-tree : (h : ℕ) (B : Blocks) → Within h (nodesOf h B)
+pub nodes-of-in-tree : (h : ℕ) (B : Blocks) → Within h (nodesOf h B)
 nodes-of-in-tree h B n p =
     let t = both-left (both (ltb 0 n) (ltb n (2 ^ suc h))) (B (blockOf h n)) p in
     record {

@@ -26,6 +26,14 @@ both-true false = refl
 suc-sub-le : (h l : ℕ) → suc (h - l) ≤ suc h
 suc-sub-le h l = omega arith
 
+-- no node has a level above the height
+pub sizes-above : (h : ℕ) (A : Nodes) (l : ℕ) → h < l → sizes h A l ≡ 0
+unfolding sizes
+sizes-above h A l q = count-of-none (2 ^ suc h) _ (λ n r e. no-level n (eqb-true (level h n) l (both-right (A n) (eqb (level h n) l) e)))
+  where
+    no-level : (n : ℕ) → ¬ (level h n ≡ l)
+    no-level n e = omega arith
+
 module _ (h : ℕ) (A : Nodes) (B : Blocks) (S : SameSet h A B) (l : ℕ) where
   abbrev heldAtLevel : ℕ → Bool
   heldAtLevel n = both (A n) (eqb (level h n) l)
@@ -64,16 +72,10 @@ module _ (h : ℕ) (A : Nodes) (B : Blocks) (S : SameSet h A B) (l : ℕ) where
       none : (n : ℕ) → ¬ (heldAtLevel n ≡ true) → one-if (heldAtLevel n) ≡ 0
       none n r = one-if-not-true (heldAtLevel n) r
 
-  -- no node has a level above the height
   sizes-past-height : h < l → sizes h A l ≡ bsizes h B l
-  unfolding sizes bsizes
-  sizes-past-height q =
-      count-of-none (2 ^ suc h) heldAtLevel (λ n r e. no-level n (held-level n e))
-      ∙ sym (count-of-none (2 ^ h) (λ k. B (record { level = l; index = k })) (λ k r e. no-block k e))
+  unfolding bsizes
+  sizes-past-height q = sizes-above h A l q ∙ sym (count-of-none (2 ^ h) (λ k. B (record { level = l; index = k })) (λ k r e. no-block k e))
     where
-      no-level : (n : ℕ) → level h n ≡ l → ⊥
-      no-level n e = omega arith
-
       no-block : (k : ℕ) → ¬ (B (record { level = l; index = k }) ≡ true)
       no-block k e = omega (arith, level-le h (record { level = l; index = k }) (S .blocks-within (record { level = l; index = k }) e))
 

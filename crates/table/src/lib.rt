@@ -1,0 +1,8 @@
+// The table of tenants: what it holds, whether it is in order, and who goes where when the layout changes.
+
+// A tenant that moves: its number, its old node and its new one.
+pub struct Move {
+    pub tenant: u16,
+    pub from: u16,
+    pub to: u16,
+}
