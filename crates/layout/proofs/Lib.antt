@@ -1,0 +1,3 @@
+pub mod Members
+pub mod States
+pub mod Order
