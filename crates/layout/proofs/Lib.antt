@@ -1,3 +1,4 @@
 pub mod Members
 pub mod States
 pub mod Order
+pub mod Within

@@ -1,15 +1,15 @@
 -- The blocks of a layout stand in the order of their pages and share none; so the layout is legal.
-use mathlib.Core.Path.{_≡_, sym, _∙_}
+use mathlib.Core.Path.{_≡_, refl, sym, _∙_}
 use mathlib.Core.List.{List, [], _∷_, _++_, append-assoc}
 use Prim.Native.Nat.{ℕ, zero, suc, _+_, _*_, _^_, _≤_, _<_}
 use native.Mathlib.Nat.{le-trans, le-refl, le-of-eq, add-zero, mul-le-mul-right}
 use native.Mathlib.Omega.{arith}
 use lib.Pow.{pow-pos}
 use Rattle.tree.specs.Block.{Block, first, past, Meet, BLegal}
-use Rattle.layout.specs.Layout.{State, full, start, running, place, rise, settled, run, layoutFrom, layout, among}
+use Rattle.layout.specs.Layout.{State, start, running, place, rise, run, layoutFrom, layout, among}
 use Rattle.layout.proofs.Members.{Member, here, later, among-member, same-first, same-past}
 use Rattle.layout.proofs.States.{AtLevel, full-at, lone-at, lone-pages, place-at, start-place}
-use Rattle.layout.proofs.States.{double-index, Rises, full-rises, lone-rises, lone-settles, rises, rise-at}
+use Rattle.layout.proofs.States.{double-pages, Rises, full-rises, lone-rises, lone-settles, rises, next-at}
 
 pub first-below-past : (b : Block) → first b < past b
 first-below-past b = let z = pow-pos (b .level) in omega arith
@@ -30,12 +30,11 @@ run-chain l i (suc n) c = cons (le-refl (i * 2 ^ l)) (run-chain l (suc i) n (cha
 -- what settles on the way up stands between the level's run and the blocks from the next level on
 rise-chain : (l : ℕ) {s t : State} {xs bs : List Block}
     → AtLevel l s → Rises s xs t → Chain (start t * 2 ^ suc l) bs → Chain (start s * 2 ^ l) (xs ++ bs)
-rise-chain l full-at (full-rises {u = u} {w = w} p q) c = chain-earlier (rw double-index (mul-le-mul-right (2 ^ l) p)) c
-rise-chain l (lone-at e) (lone-rises {v = v} {w = w} h) c = chain-earlier (rw (h, double-index) (le-refl ((w + w) * 2 ^ l))) c
+rise-chain l full-at (full-rises {u = u} {w = w} p q) c = chain-earlier (rw (← double-pages w l refl) (mul-le-mul-right (2 ^ l) p)) c
+rise-chain l (lone-at e) (lone-rises {v = v} {w = w} h) c = chain-earlier (le-of-eq (double-pages w l h)) c
 rise-chain l (lone-at e) (lone-settles {v = v} {j = j} {k = k} {w = w} h) c =
     let at = lone-pages l v j k e in
-    let d = double-index (suc w) l in
-    let up : suc v * 2 ^ l ≡ (suc w + suc w) * 2 ^ l = rw h (omega arith) in
+    let up : suc v * 2 ^ l ≡ suc w * 2 ^ suc l = double-pages (suc w) l (omega arith) in
     cons (le-of-eq (sym (at .begins))) (chain-earlier (omega arith) c)
 
 layoutFrom-chain : (l : ℕ) {s : State} (cs : List ℕ) → AtLevel l s → Chain (start s * 2 ^ l) (layoutFrom l s cs)
@@ -43,9 +42,8 @@ layoutFrom-chain l [] full-at = nil
 layoutFrom-chain l [] (lone-at {v = v} {j = j} {k = k} e) = cons (le-of-eq (sym (lone-pages l v j k e .begins))) nil
 layoutFrom-chain l {s} (c ∷ cs) a =
     let t : State = place l s c in
-    let b : AtLevel l t = place-at l c a in
-    let above : Chain (start (rise t) * 2 ^ suc l) (layoutFrom (suc l) (rise t) cs) = layoutFrom-chain (suc l) cs (rise-at b (rises t)) in
-    rw append-assoc (run-chain l (start s) (running s c) (rw start-place at (rise-chain l b (rises t) above)))
+    let above : Chain (start (rise t) * 2 ^ suc l) (layoutFrom (suc l) (rise t) cs) = layoutFrom-chain (suc l) cs (next-at l c a) in
+    rw append-assoc (run-chain l (start s) (running s c) (rw start-place at (rise-chain l (place-at l c a) (rises t) above)))
 
 pub layout-chain : (cs : List ℕ) → Chain 0 (layout cs)
 unfolding layout
