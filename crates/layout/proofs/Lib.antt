@@ -2,3 +2,4 @@ pub mod Members
 pub mod States
 pub mod Order
 pub mod Within
+pub mod Sizes
