@@ -1,6 +1,16 @@
+pub mod Members
+pub mod States
+pub mod Order
+pub mod Within
+pub mod Sizes
+pub mod Solid
+pub mod Filled
+pub mod Tails
+pub mod Safe
 pub mod Edit
 pub mod Apart
 pub mod Moves
 pub mod Ends
 pub mod Pages
 pub mod Leaving
+pub mod Theorems
