@@ -3,3 +3,7 @@ pub mod States
 pub mod Order
 pub mod Within
 pub mod Sizes
+pub mod Solid
+pub mod Filled
+pub mod Tails
+pub mod Safe

@@ -37,7 +37,7 @@ rise-chain l (lone-at e) (lone-settles {v = v} {j = j} {k = k} {w = w} h) c =
     let up : suc v * 2 ^ l ≡ suc w * 2 ^ suc l = double-pages (suc w) l (omega arith) in
     cons (le-of-eq (sym (at .begins))) (chain-earlier (omega arith) c)
 
-layoutFrom-chain : (l : ℕ) {s : State} (cs : List ℕ) → AtLevel l s → Chain (start s * 2 ^ l) (layoutFrom l s cs)
+pub layoutFrom-chain : (l : ℕ) {s : State} (cs : List ℕ) → AtLevel l s → Chain (start s * 2 ^ l) (layoutFrom l s cs)
 layoutFrom-chain l [] full-at = nil
 layoutFrom-chain l [] (lone-at {v = v} {j = j} {k = k} e) = cons (le-of-eq (sym (lone-pages l v j k e .begins))) nil
 layoutFrom-chain l {s} (c ∷ cs) a =
