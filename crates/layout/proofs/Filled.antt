@@ -19,12 +19,12 @@ use Rattle.layout.proofs.Solid.{subtree-covers, lone-occupies, halves-t
 
 -- The states, over a set A
 
--- Before a level's blocks are placed: two blocks below each subtree where the level does not yet place, and all left of the lone block solid.
+-- Before a level's blocks are placed: two blocks below each subtree left of where it begins, and all left of the lone block solid.
 data Filled (A : Blocks) (l : ℕ) : State → Type 0 where
   full-filled : {u : ℕ} → ((x : ℕ) → x < u → TwoInside A l x) → Filled A l (full u)
   lone-filled : {v j k : ℕ} → ((x : ℕ) → x < v → TwoInside A l x) → ((x : ℕ) → x < v * 2 ^ k → Solid A j x) → Filled A l (lone v j k)
 
--- With them placed: the same if there is no lone block, for then there was nothing to place; else one block in each subtree before it.
+-- With them placed: the same if there is no lone block, as then there was nothing to place; else a block in each subtree before its own.
 data Placed (A : Blocks) (l : ℕ) : State → Type 0 where
   full-placed : {u : ℕ} → ((x : ℕ) → x < u → TwoInside A l x) → Placed A l (full u)
   lone-placed : {v j k : ℕ} → ((x : ℕ) → x < v → Occupied A l x) → ((x : ℕ) → x < v * 2 ^ k → Solid A j x) → Placed A l (lone v j k)
