@@ -1,0 +1,46 @@
+-- The level that a number of pages asks for is the smallest whose block has that many.
+use mathlib.Core.Path.{_≡_, refl, sym, ap, _∙_}
+use mathlib.Core.Bool.{Bool, true, false, cond}
+use Prim.Native.Nat.{ℕ, zero, suc, _+_, _^_, _≤_, _<_}
+use native.Mathlib.Nat.{add-zero, add-suc, suc-add, zero-add, pow-suc}
+use native.Mathlib.Omega.{arith}
+use native.Mathlib.Decide.{decLt}
+use borrow.Author.Tests.{leb-true, leb-false}
+use lib.Dec.{leb}
+use lib.Pow.{pow-mono, pow-pos}
+use Rattle.calls.specs.Call.{leastFrom, levelFor}
+
+-- l is the smallest level whose block has p pages
+pub record Least (p l : ℕ) : Type 0 where
+  pub enough : p ≤ 2 ^ l
+  pub smallest : (m : ℕ) → p ≤ 2 ^ m → l ≤ m
+
+least-from : (l n p : ℕ) → p ≤ 2 ^ (l + n) → ((m : ℕ) → p ≤ 2 ^ m → l ≤ m) → Least p (leastFrom l n p)
+least-from l zero p q s = record { enough = rw (add-zero l) at q; smallest = s }
+least-from l (suc n) p q s = go (leb p (2 ^ l)) refl (λ s′. least-from (suc l) n p (rw (add-suc, ← suc-add) at q) s′)
+  where
+    go : (b : Bool) → leb p (2 ^ l) ≡ b → (((m : ℕ) → p ≤ 2 ^ m → suc l ≤ m) → Least p (leastFrom (suc l) n p)) → Least p (cond b l (leastFrom (suc l) n p))
+    go true e up = record { enough = leb-true p (2 ^ l) e; smallest = s }
+    go false e up = up above
+      where
+        above : (m : ℕ) → p ≤ 2 ^ m → suc l ≤ m
+        above m r = let more : 2 ^ l < p = leb-false p (2 ^ l) e in
+            elim (decLt l m) [
+              | yes t ↦ t
+              | no nt ↦ absurd (omega (arith, pow-mono (not-lt nt)))
+            ]
+          where
+            not-lt : ¬ (l < m) → m ≤ l
+            not-lt f = omega arith
+
+le-pow : (p : ℕ) → p ≤ 2 ^ p
+le-pow zero = omega arith
+le-pow (suc p) = rw pow-suc (omega (arith, le-pow p, pow-pos p))
+
+pub level-for-least : (p : ℕ) → Least p (levelFor p)
+unfolding levelFor
+level-for-least p = least-from 0 p p (rw zero-add (le-pow p)) (λ m q. omega arith)
+
+-- so pages that the reserve has ask for a level that it has
+pub level-for-le : (p h : ℕ) → p ≤ 2 ^ h → levelFor p ≤ h
+level-for-le p h q = level-for-least p .smallest h q

@@ -1,0 +1,78 @@
+-- Demand 3 and document 01's list under "Histories", as one statement about two whole histories of one height.
+use mathlib.Core.Path.{_≡_}
+use mathlib.Core.Bool.{Bool, not, _&&_}
+use mathlib.Core.List.{List}
+use mathlib.Core.Logic.{_⊎_, _↔_}
+use mathlib.Core.Option.{Option, some, none}
+use Prim.Native.Nat.{ℕ, suc, _+_, _≤_, _<_}
+use lib.Dec.{eqb, ltb}
+use lib.ListN.{length}
+use Rattle.tree.specs.Node.{InTree, level}
+use Rattle.tree.specs.Held.{Nodes, Within, Legal, Safe, sizes, count, one-if}
+use Rattle.table.specs.Table.{nodeAt, occupied}
+use Rattle.calls.specs.Call.{Call, grant-level, grant-pages, release, tenantOf, levelFor}
+use Rattle.calls.specs.Step.{Outcome, first, validity, step}
+use Rattle.calls.specs.History.{History, tableAfter, Book, bookAfter, held}
+
+-- valid: none of 3 to 6 applies
+abbrev pub Valid : ℕ → Call → Type 0
+Valid h c = first (validity h c) ≡ 0
+
+-- c is a request, a grant of either kind, for level l
+pub data Asks : Call → ℕ → Type 0 where
+  by-level : {t l m : ℕ} → Asks (grant-level t l m) l
+  by-pages : {t p m : ℕ} → Asks (grant-pages t p m) (levelFor p)
+
+pub data Releases : Call → Type 0 where
+  releases : {t m : ℕ} → Releases (release t m)
+
+-- what the book has for a tenant, and what the table has
+abbrev pub Agrees : ℕ → Option ℕ → ℕ → Type 0
+Agrees h none n = n ≡ 0
+Agrees h (some l) n = InTree h n × (level h n ≡ l)
+
+-- the held sizes with one more at level l
+abbrev pub withOne : Book → ℕ → ℕ → ℕ
+withOne B l m = held B m + one-if (eqb m l)
+
+-- no legal placement: every set of nodes of the tree with those sizes and one more fails to be legal
+abbrev pub NoPlacement : ℕ → Book → ℕ → Type 0
+NoPlacement h B l = (A : Nodes) → Within h A → ((m : ℕ) → sizes h A m ≡ withOne B l m) → ¬ Legal A
+
+-- how many tenants but t have a node before and a different node after
+unfoldable pub changed : ℕ → List ℕ → List ℕ → ℕ
+changed t T T′ = count 4096 (λ u. not (eqb u t) && (ltb 0 (nodeAt T u) && (ltb 0 (nodeAt T′ u) && not (eqb (nodeAt T′ u) (nodeAt T u)))))
+
+-- what holds of one box, by its table T and its book B
+pub record Box (h : ℕ) (T : List ℕ) (B : Book) : Type 0 where
+  pub agrees : (t : ℕ) → t < 4096 → Agrees h (B t) (nodeAt T t)
+  pub within : Within h (occupied T)
+  pub legal : Legal (occupied T)
+  pub safe : Safe h (occupied T)
+  pub sized : (l : ℕ) → sizes h (occupied T) l ≡ held B l
+  pub only : (A : Nodes) → Within h A → Legal A → Safe h A → ((l : ℕ) → sizes h A l ≡ held B l) → (n : ℕ) → A n ≡ occupied T n
+  pub not-valid : (c : Call) → ¬ Valid h c → step h T c .answer ≡ first (validity h c)
+  pub holder-asks : (c : Call) (l k : ℕ) → Asks c l → Valid h c → B (tenantOf c) ≡ some k → step h T c .answer ≡ 8
+  pub other-asks : (c : Call) (l : ℕ) → Asks c l → Valid h c → B (tenantOf c) ≡ none
+      → ((step h T c .answer ≡ 10) ↔ NoPlacement h B l) × ((step h T c .answer ≡ 10) ⊎ (step h T c .answer ≡ 0))
+  pub holder-releases : (c : Call) (k : ℕ) → Releases c → Valid h c → B (tenantOf c) ≡ some k → step h T c .answer ≡ 0
+  pub other-releases : (c : Call) → Releases c → Valid h c → B (tenantOf c) ≡ none → step h T c .answer ≡ 9
+  pub moves : (c : Call) → length (step h T c .moves) ≡ changed (tenantOf c) T (step h T c .table)
+  pub grant-moves : (c : Call) (l : ℕ) → Asks c l → step h T c .answer ≡ 0 → length (step h T c .moves) ≤ 3
+  pub release-moves : (c : Call) → Releases c → step h T c .answer ≡ 0 → length (step h T c .moves) ≤ 4
+
+-- both answer "no room" and there is no legal placement, or both grant and each moves at most three
+pub data SameFate (h : ℕ) (B : Book) (l : ℕ) (one two : Outcome) : Type 0 where
+  no-room : one .answer ≡ 10 → two .answer ≡ 10 → NoPlacement h B l → SameFate h B l one two
+  room : one .answer ≡ 0 → two .answer ≡ 0 → length (one .moves) ≤ 3 → length (two .moves) ≤ 3 → ¬ NoPlacement h B l → SameFate h B l one two
+
+-- two boxes of one height, each with its own history
+pub record Boxes (h : ℕ) (T₁ T₂ : List ℕ) (B₁ B₂ : Book) : Type 0 where
+  pub one : Box h T₁ B₁
+  pub two : Box h T₂ B₂
+  pub same-places : ((l : ℕ) → held B₁ l ≡ held B₂ l) → (n : ℕ) → occupied T₁ n ≡ occupied T₂ n
+  pub same-fate : ((l : ℕ) → held B₁ l ≡ held B₂ l) → (c₁ c₂ : Call) (l : ℕ) → Asks c₁ l → Asks c₂ l → Valid h c₁ → Valid h c₂
+      → B₁ (tenantOf c₁) ≡ none → B₂ (tenantOf c₂) ≡ none → SameFate h B₁ l (step h T₁ c₁) (step h T₂ c₂)
+
+abbrev pub Demand3 : (h : ℕ) → History h → History h → Type 0
+Demand3 h H₁ H₂ = Boxes h (tableAfter h H₁) (tableAfter h H₂) (bookAfter h H₁) (bookAfter h H₂)

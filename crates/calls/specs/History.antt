@@ -1,0 +1,63 @@
+-- Histories, and the book that is kept of them. Document 01, "Histories".
+use mathlib.Core.Path.{_≡_}
+use mathlib.Core.Bool.{Bool, false, cond}
+use mathlib.Core.List.{List, [], _∷_}
+use mathlib.Core.Option.{Option, some, none}
+use Prim.Native.Nat.{ℕ, zero, suc}
+use lib.Dec.{eqb}
+use Rattle.tree.specs.Held.{count}
+use Rattle.calls.specs.Call.{Call, grant-level, grant-pages, release, levelFor}
+use Rattle.calls.specs.Step.{Outcome, step, open-reserve}
+
+-- a history at height h: an accepted opening of a lent table, then any list of calls, each on the table that the last one left
+pub record History (h : ℕ) : Type 0 where
+  pub lent : List ℕ
+  pub opened : open-reserve h lent .answer ≡ 0
+  pub calls : List Call
+
+-- the table after some calls, and the numbers that they answer
+unfoldable pub tableFrom : ℕ → List ℕ → List Call → List ℕ
+tableFrom h T [] = T
+tableFrom h T (c ∷ cs) = tableFrom h (step h T c .table) cs
+
+unfoldable pub answersFrom : ℕ → List ℕ → List Call → List ℕ
+answersFrom h T [] = []
+answersFrom h T (c ∷ cs) = step h T c .answer ∷ answersFrom h (step h T c .table) cs
+
+abbrev pub tableAfter : (h : ℕ) → History h → List ℕ
+tableAfter h H = tableFrom h (open-reserve h (H .lent) .table) (H .calls)
+
+abbrev pub answersOf : (h : ℕ) → History h → List ℕ
+answersOf h H = answersFrom h (open-reserve h (H .lent) .table) (H .calls)
+
+-- ---- the book: for each tenant a level or nothing, from the calls' arguments and answers alone
+
+abbrev pub Book : Type 0
+Book = ℕ → Option ℕ
+
+abbrev pub write : ℕ → Option ℕ → Book → Book
+write t e B u = cond (eqb u t) e (B u)
+
+-- one call with the number that it answered: a grant answered 0 writes the tenant's level down, a release answered 0 strikes it out
+abbrev pub enter : Call → ℕ → Book → Book
+enter c (suc a) B = B
+enter (grant-level t l m) zero B = write t (some l) B
+enter (grant-pages t p m) zero B = write t (some (levelFor p)) B
+enter (release t m) zero B = write t none B
+
+unfoldable pub bookFrom : Book → List Call → List ℕ → Book
+bookFrom B [] as′ = B
+bookFrom B (c ∷ cs) [] = B
+bookFrom B (c ∷ cs) (a ∷ as′) = bookFrom (enter c a B) cs as′
+
+-- after the opening it has nothing for anyone
+abbrev pub bookAfter : (h : ℕ) → History h → Book
+bookAfter h H = bookFrom (λ t. none) (H .calls) (answersOf h H)
+
+abbrev pub at-level : Option ℕ → ℕ → Bool
+at-level none l = false
+at-level (some k) l = eqb k l
+
+-- the held sizes: the number of tenants at each level in the book
+unfoldable pub held : Book → ℕ → ℕ
+held B l = count 4096 (λ t. at-level (B t) l)

@@ -1,0 +1,105 @@
+-- What each call answers and what it leaves in the table, for every height, table and argument. Document 01, "Calls" and "Refusals by place".
+use mathlib.Core.Bool.{Bool, not, cond}
+use mathlib.Core.List.{List, [], _∷_, _++_}
+use Prim.Native.Nat.{ℕ, zero, suc, _+_, _^_}
+use lib.Dec.{eqb, ltb}
+use lib.ListN.{length, set, replicate}
+use Rattle.tree.specs.Node.{level}
+use Rattle.tree.specs.Held.{Nodes}
+use Rattle.layout.specs.Layout.{pages}
+use Rattle.layout.specs.Set.{layoutSet}
+use Rattle.layout.specs.Change.{oneMore, oneFewer}
+use Rattle.table.specs.Table.{withNode, nodeAt, occupied, countsOf, in-order?}
+use Rattle.table.specs.Pairing.{newcomer, moved, movesOf}
+use Rattle.table.specs.declared.Move.{Move}
+use Rattle.calls.specs.Call.{Call, grant-level, grant-pages, release, levelFor}
+
+-- what a call reports, and the table afterwards
+pub record Outcome : Type 0 where
+  pub answer : ℕ
+  pub node : ℕ
+  pub moves : List Move
+  pub table : List ℕ
+
+-- a refusal: its number, node 0, no moves, and the table as it was
+abbrev pub refused : ℕ → List ℕ → Outcome
+refused number T = record { answer = number; node = 0; moves = []; table = T }
+
+-- a refusal's number, and whether its condition holds
+pub record Check : Type 0 where
+  pub number : ℕ
+  pub applies : Bool
+
+abbrev pub check : ℕ → Bool → Check
+check n b = record { number = n; applies = b }
+
+-- the number of the first that applies, or 0
+abbrev pub first : List Check → ℕ
+first [] = 0
+first (c ∷ cs) = cond (c .applies) (c .number) (first cs)
+
+-- ---- the conditions, in order
+
+-- 1 and 2
+abbrev pub reserve-checks : ℕ → List ℕ → List Check
+reserve-checks h T = check 1 (ltb 12 h) ∷ check 2 (not (eqb (length T) 4096)) ∷ []
+
+-- 3 and 4
+abbrev pub list-checks : ℕ → ℕ → List Check
+list-checks t m = check 3 (ltb m 4) ∷ check 4 (ltb 4095 t) ∷ []
+
+-- 3 to 6: those by which a request or a release is not valid
+abbrev pub validity : ℕ → Call → List Check
+validity h (grant-level t l m) = list-checks t m ++ check 5 (ltb h l) ∷ []
+validity h (grant-pages t p m) = list-checks t m ++ check 6 (ltb (2 ^ h) p) ∷ []
+validity h (release t m) = list-checks t m
+
+-- 8 and 10
+abbrev pub grant-holdings : ℕ → List ℕ → ℕ → ℕ → List Check
+grant-holdings h T t l = check 8 (ltb 0 (nodeAt T t)) ∷ check 10 (ltb (2 ^ h) (pages (countsOf h T) + 2 ^ l)) ∷ []
+
+-- 8, 9 and 10
+abbrev pub holdings : ℕ → List ℕ → Call → List Check
+holdings h T (grant-level t l m) = grant-holdings h T t l
+holdings h T (grant-pages t p m) = grant-holdings h T t (levelFor p)
+holdings h T (release t m) = check 9 (eqb (nodeAt T t) 0) ∷ []
+
+abbrev pub checks : ℕ → List ℕ → Call → List Check
+checks h T c = reserve-checks h T ++ validity h c ++ check 7 (not (in-order? h T)) ∷ holdings h T c
+
+-- ---- the accepted calls
+
+-- the table and the moves with everybody in the set N, and the newcomer t on level l
+abbrev pub granted : ℕ → List ℕ → Nodes → ℕ → ℕ → Outcome
+granted h T N t l = record {
+  answer = 0;
+  node = newcomer h (occupied T) N l;
+  moves = movesOf h N T;
+  table = set (moved h N T) t (withNode 0 (newcomer h (occupied T) N l));
+}
+
+-- the same with t's entry struck out
+abbrev pub released : ℕ → List ℕ → Nodes → ℕ → Outcome
+released h T N t = record {
+  answer = 0;
+  node = nodeAt T t;
+  moves = movesOf h N (set T t 0);
+  table = moved h N (set T t 0);
+}
+
+abbrev pub accepted : ℕ → List ℕ → Call → Outcome
+accepted h T (grant-level t l m) = granted h T (layoutSet h (oneMore (countsOf h T) l)) t l
+accepted h T (grant-pages t p m) = granted h T (layoutSet h (oneMore (countsOf h T) (levelFor p))) t (levelFor p)
+accepted h T (release t m) = released h T (layoutSet h (oneFewer (countsOf h T) (level h (nodeAt T t)))) t
+
+abbrev pub unless : ℕ → List ℕ → Outcome → Outcome
+unless zero T done = done
+unless (suc n) T done = refused (suc n) T
+
+-- a grant or release at height h on the table T
+unfoldable pub step : ℕ → List ℕ → Call → Outcome
+step h T c = unless (first (checks h T c)) T (accepted h T c)
+
+-- opening at height h on a lent table T: every entry 0
+unfoldable pub open-reserve : ℕ → List ℕ → Outcome
+open-reserve h T = unless (first (reserve-checks h T)) T (record { answer = 0; node = 0; moves = []; table = replicate 4096 0 })
