@@ -10,8 +10,10 @@ use lib.Dec.{eqb, ltb}
 use lib.ListN.{length}
 use Rattle.layout.specs.Layout.{pages}
 use Rattle.table.specs.Table.{nodeAt, countsOf, in-order?}
-use Rattle.calls.specs.Call.{Call, grant-level, grant-pages, release, levelFor}
-use Rattle.calls.specs.Step.{Outcome, Check, check, first, list-checks, validity, grant-holdings, holdings, reserve-checks, checks, unless, accepted, refused, step}
+use Rattle.calls.specs.Call.{Call, grant-level, grant-pages, release, tenantOf}
+use Rattle.calls.specs.Step.{Check, check, first, list-checks, validity, holdings, checks, unless, accepted, step}
+use Rattle.calls.specs.Demand.{Asks, by-level, by-pages}
+use Rattle.calls.proofs.Level.{level-for-le}
 
 -- on a table in order of 4,096 entries, at a height up to 12, only 3 to 6 and 8 to 10 can apply
 pub record Sound (h : ℕ) (T : List ℕ) : Type 0 where
@@ -23,3 +25,77 @@ pub first-of-sound : (h : ℕ) (T : List ℕ) (c : Call) → Sound h T → first
 first-of-sound h T (grant-level t l m) s = rw (le-ltb 12 h (s .height), eq-eqb (length T) 4096 (s .entries), s .in-order)
 first-of-sound h T (grant-pages t p m) s = rw (le-ltb 12 h (s .height), eq-eqb (length T) 4096 (s .entries), s .in-order)
 first-of-sound h T (release t m) s = rw (le-ltb 12 h (s .height), eq-eqb (length T) 4096 (s .entries), s .in-order)
+
+-- a refusal's number is not 0
+abbrev Numbered : List Check → Type 0
+Numbered [] = Unit {0}
+Numbered (c ∷ cs) = (0 < c .number) × Numbered cs
+
+first-after-none : (xs ys : List Check) → Numbered xs → first xs ≡ 0 → first (xs ++ ys) ≡ first ys
+first-after-none [] ys n e = refl
+first-after-none (c ∷ xs) ys n e = go (c .applies) e (first-after-none xs ys (n .1))
+  where
+    go : (b : Bool) → cond b (c .number) (first xs) ≡ 0 → (first xs ≡ 0 → first (xs ++ ys) ≡ first ys) → cond b (c .number) (first (xs ++ ys)) ≡ first ys
+    go true z rest = absurd (omega (arith, n .0))
+    go false z rest = rest z
+
+first-stands : (xs ys : List Check) → ¬ (first xs ≡ 0) → first (xs ++ ys) ≡ first xs
+first-stands [] ys ne = absurd (ne refl)
+first-stands (c ∷ xs) ys ne = go (c .applies) ne (first-stands xs ys)
+  where
+    go : (b : Bool) → ¬ (cond b (c .number) (first xs) ≡ 0) → (¬ (first xs ≡ 0) → first (xs ++ ys) ≡ first xs)
+        → cond b (c .number) (first (xs ++ ys)) ≡ cond b (c .number) (first xs)
+    go true z rest = refl
+    go false z rest = rest z
+
+validity-numbered : (h : ℕ) (c : Call) → Numbered (validity h c)
+validity-numbered h (grant-level t l m) = (omega arith, (omega arith, (omega arith, tt)))
+validity-numbered h (grant-pages t p m) = (omega arith, (omega arith, (omega arith, tt)))
+validity-numbered h (release t m) = (omega arith, (omega arith, tt))
+
+-- a call answers the number of the first check that applies, or 0
+pub answer-is-first : (h : ℕ) (T : List ℕ) (c : Call) → step h T c .answer ≡ first (checks h T c)
+unfolding step
+answer-is-first h T c = go (first (checks h T c)) c
+  where
+    go : (n : ℕ) (c : Call) → (unless n T (accepted h T c)) .answer ≡ n
+    go zero (grant-level t l m) = refl
+    go zero (grant-pages t p m) = refl
+    go zero (release t m) = refl
+    go (suc n) c = refl
+
+module _ (h : ℕ) (T : List ℕ) (s : Sound h T) where
+  pub answer-not-valid : (c : Call) → ¬ (first (validity h c) ≡ 0) → step h T c .answer ≡ first (validity h c)
+  answer-not-valid c v = answer-is-first h T c ∙ first-of-sound h T c s ∙ first-stands (validity h c) (holdings h T c) v
+
+  pub answer-valid : (c : Call) → first (validity h c) ≡ 0 → step h T c .answer ≡ first (holdings h T c)
+  answer-valid c v = answer-is-first h T c ∙ first-of-sound h T c s ∙ first-after-none (validity h c) (holdings h T c) (validity-numbered h c) v
+
+-- what a valid call's arguments are
+not-applied : (n : ℕ) (b : Bool) (cs : List Check) → 0 < n → first (check n b ∷ cs) ≡ 0 → b ≡ false
+not-applied n true cs p e = absurd (omega arith)
+not-applied n false cs p e = refl
+
+rest-zero : (n : ℕ) (b : Bool) (cs : List Check) → 0 < n → first (check n b ∷ cs) ≡ 0 → first cs ≡ 0
+rest-zero n true cs p e = absurd (omega arith)
+rest-zero n false cs p e = e
+
+tenant-below : (t m : ℕ) (cs : List Check) → first (check 3 (ltb m 4) ∷ check 4 (ltb 4095 t) ∷ cs) ≡ 0 → t < 4096
+tenant-below t m cs e =
+    let r = rest-zero 3 (ltb m 4) (check 4 (ltb 4095 t) ∷ cs) (omega arith) e in
+    omega (arith, ltb-false 4095 t (not-applied 4 (ltb 4095 t) cs (omega arith) r))
+
+pub valid-tenant : (h : ℕ) (c : Call) → first (validity h c) ≡ 0 → tenantOf c < 4096
+valid-tenant h (grant-level t l m) v = tenant-below t m (check 5 (ltb h l) ∷ []) v
+valid-tenant h (grant-pages t p m) v = tenant-below t m (check 6 (ltb (2 ^ h) p) ∷ []) v
+valid-tenant h (release t m) v = tenant-below t m [] v
+
+size-check : (t m : ℕ) (c : Check) → first (list-checks t m ++ c ∷ []) ≡ 0 → first (c ∷ []) ≡ 0
+size-check t m c e =
+    let r = rest-zero 3 (ltb m 4) (check 4 (ltb 4095 t) ∷ c ∷ []) (omega arith) e in
+    rest-zero 4 (ltb 4095 t) (c ∷ []) (omega arith) r
+
+pub valid-level : (h : ℕ) (c : Call) (l : ℕ) → Asks c l → first (validity h c) ≡ 0 → l ≤ h
+valid-level h c l (by-level {t = t} {l = k} {m = m}) v = ltb-false h k (not-applied 5 (ltb h k) [] (omega arith) (size-check t m (check 5 (ltb h k)) v))
+valid-level h c l (by-pages {t = t} {p = p} {m = m}) v =
+    level-for-le p h (ltb-false (2 ^ h) p (not-applied 6 (ltb (2 ^ h) p) [] (omega arith) (size-check t m (check 6 (ltb (2 ^ h) p)) v)))
