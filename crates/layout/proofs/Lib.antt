@@ -14,3 +14,4 @@ pub mod Ends
 pub mod Pages
 pub mod Leaving
 pub mod Theorems
+pub mod Starred

@@ -3,3 +3,4 @@ pub mod Change
 pub mod Runs
 pub mod Set
 pub mod Leaving
+pub mod Starred
