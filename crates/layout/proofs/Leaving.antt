@@ -16,7 +16,7 @@ use Rattle.tree.proofs.Sets.{both-left, both-right, nodes-of-in-tree}
 use Rattle.tree.proofs.Count.{passes-first, fails-second, passes-only-first}
 use Rattle.tree.proofs.Sum.{count-le-one, count-of-none}
 use Rattle.layout.specs.Layout.{layout, among, same-block, either}
-use Rattle.layout.specs.Change.{oneMore, missing}
+use Rattle.layout.specs.Change.{oneMore, missing, mostByGrant, mostByRelease}
 use Rattle.layout.specs.Set.{layoutSet}
 use Rattle.layout.specs.Leaving.{leaving}
 use Rattle.layout.proofs.Members.{same-block-eq}
@@ -113,10 +113,10 @@ lost-at-most h (x ∷ xs) B =
       lost-at-most h xs B,
     )
 
-pub grant-leaves-at-most-3 : (h : ℕ) (cs : List ℕ) (x : ℕ) → x < length cs → leaving h (layoutSet h cs) (layoutSet h (oneMore cs x)) ≤ 3
+pub grant-leaves-at-most-3 : (h : ℕ) (cs : List ℕ) (x : ℕ) → x < length cs → leaving h (layoutSet h cs) (layoutSet h (oneMore cs x)) ≤ mostByGrant
 unfolding leaving
 grant-leaves-at-most-3 h cs x q = omega (arith, lost-at-most h (layout cs) (among (layout (oneMore cs x))), grant-moves-at-most-3 cs x q)
 
-pub release-leaves-at-most-4 : (h : ℕ) (cs : List ℕ) (x : ℕ) → x < length cs → leaving h (layoutSet h (oneMore cs x)) (layoutSet h cs) ≤ 4
+pub release-leaves-at-most-4 : (h : ℕ) (cs : List ℕ) (x : ℕ) → x < length cs → leaving h (layoutSet h (oneMore cs x)) (layoutSet h cs) ≤ mostByRelease
 unfolding leaving
 release-leaves-at-most-4 h cs x q = omega (arith, lost-at-most h (layout (oneMore cs x)) (among (layout cs)), release-moves-at-most-4 cs x q)

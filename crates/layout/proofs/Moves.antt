@@ -7,7 +7,7 @@ use native.Mathlib.Numerals.{add-one}
 use lib.ListN.{length}
 use Rattle.tree.specs.Block.{node}
 use Rattle.layout.specs.Layout.{State, full, place, rise, remaining, layoutFrom, layout, among}
-use Rattle.layout.specs.Change.{oneMore, missing}
+use Rattle.layout.specs.Change.{oneMore, missing, mostByGrant, mostByRelease}
 use Rattle.layout.proofs.Edit.{Edit, done, miss, more, hits, same-list, backwards, missing-at-most}
 use Rattle.layout.proofs.Apart.{Apart, lone-in-B, lone-in-A, lone-in-both, same, Level, placed}
 use Rattle.layout.proofs.Apart.{level-with-equal-counts, level-with-one-more}
@@ -29,10 +29,10 @@ unfolding layout
 one-more-edit cs x = edit-from 0 (full 0) cs x
 
 -- `x < length cs` says that there is a level x; the bounds hold without it, since past the last level nothing changes.
-pub grant-moves-at-most-3 : (cs : List ℕ) (x : ℕ) → x < length cs → missing (layout cs) (among (layout (oneMore cs x))) ≤ 3
+pub grant-moves-at-most-3 : (cs : List ℕ) (x : ℕ) → x < length cs → missing (layout cs) (among (layout (oneMore cs x))) ≤ mostByGrant
 grant-moves-at-most-3 cs x inside = missing-at-most (one-more-edit cs x)
 
-pub release-moves-at-most-4 : (cs : List ℕ) (x : ℕ) → x < length cs → missing (layout (oneMore cs x)) (among (layout cs)) ≤ 4
+pub release-moves-at-most-4 : (cs : List ℕ) (x : ℕ) → x < length cs → missing (layout (oneMore cs x)) (among (layout cs)) ≤ mostByRelease
 release-moves-at-most-4 cs x inside = missing-at-most (backwards (one-more-edit cs x))
 
 -- Height 5, one block of level 0, one of level 1, two of level 2 and one of level 3; and one more of level 1.
@@ -47,10 +47,10 @@ nodes-after : map (node 5) (layout (oneMore counts 1)) ≡ 16 ∷ 17 ∷ 9 ∷ 1
 unfolding layout
 nodes-after = refl
 
-pub a-grant-moves-3 : missing (layout counts) (among (layout (oneMore counts 1))) ≡ 3
+pub a-grant-moves-3 : missing (layout counts) (among (layout (oneMore counts 1))) ≡ mostByGrant
 unfolding layout missing
 a-grant-moves-3 = refl
 
-pub a-release-moves-4 : missing (layout (oneMore counts 1)) (among (layout counts)) ≡ 4
+pub a-release-moves-4 : missing (layout (oneMore counts 1)) (among (layout counts)) ≡ mostByRelease
 unfolding layout missing
 a-release-moves-4 = refl

@@ -18,3 +18,10 @@ oneFewer cs x = set cs x (getD cs x 0 - 1)
 unfoldable pub missing : List Block → Blocks → ℕ
 missing [] B = 0
 missing (b ∷ bs) B = one-if (not (B b)) + missing bs B
+
+-- the most blocks that leave their places when one more comes, and when one goes (that one counted)
+abbrev pub mostByGrant : ℕ
+mostByGrant = 3
+
+abbrev pub mostByRelease : ℕ
+mostByRelease = 4
