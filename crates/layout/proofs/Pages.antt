@@ -9,7 +9,7 @@ use Rattle.tree.specs.Pages.{sum, pagesOf}
 use Rattle.tree.proofs.Sum.{sum-cong, sum-split, sum-stops}
 use Rattle.layout.specs.Layout.{pages, pagesFrom}
 
-sum-first : (n : ℕ) (f : ℕ → ℕ) → sum (suc n) f ≡ f 0 + sum n (λ i. f (suc i))
+pub sum-first : (n : ℕ) (f : ℕ → ℕ) → sum (suc n) f ≡ f 0 + sum n (λ i. f (suc i))
 unfolding sum
 sum-first zero f = refl
 sum-first (suc n) f = omega (arith, sum-first n f)
