@@ -1,3 +1,5 @@
 pub mod Level
 pub mod Room
 pub mod Checks
+pub mod Kept
+pub mod Answers

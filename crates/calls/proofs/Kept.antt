@@ -1,0 +1,85 @@
+-- What every history keeps up: the table is in order, and the book agrees with it tenant by tenant. And what follows for one box from that.
+use mathlib.Core.Path.{_≡_, refl, sym, ap, ap₂, _∙_}
+use mathlib.Core.Bool.{Bool, true, false, cond, _&&_}
+use mathlib.Core.List.{List}
+use mathlib.Core.Logic.{_⊎_, inl, inr, _↔_}
+use mathlib.Core.Option.{Option, some, none}
+use Prim.Native.Nat.{ℕ, zero, suc, _+_, _^_, _≤_, _<_}
+use native.Mathlib.Omega.{arith}
+use borrow.Author.Tests.{ltb-true, ltb-false, lt-ltb, le-ltb, eq-eqb}
+use lib.Dec.{eqb, ltb}
+use lib.ListN.{length, getD}
+use Rattle.tree.specs.Node.{level}
+use Rattle.tree.specs.Held.{Nodes, Within, Legal, Safe, count, one-if, sizes}
+use Rattle.tree.proofs.Sum.{sum-cong, count-as-sum}
+use Rattle.layout.specs.Layout.{pages}
+use Rattle.layout.specs.Set.{layoutSet}
+use Rattle.layout.specs.Change.{oneMore}
+use Rattle.layout.proofs.Theorems.{layout-in-tree, layout-is-legal, layout-has-counts, legal-set-fits, safe-set-is-layout}
+use Rattle.table.specs.Table.{nodeAt, occupied, InOrder, tenantsAt, countsOf}
+use Rattle.table.proofs.Tally.{tally-by-tenants}
+use Rattle.table.proofs.Order.{counts-length, occupied-in-tree, tenants-are-sizes, in-order-counts, in-order-fits, in-order-is-layout, in-order-iff}
+use Rattle.calls.specs.Call.{Call, grant-level, grant-pages, release, tenantOf}
+use Rattle.calls.specs.Step.{first, validity, holdings, grant-holdings, step}
+use Rattle.calls.specs.History.{Book, at-level, held}
+use Rattle.calls.specs.Demand.{Agrees, Asks, by-level, by-pages, Releases, releases, withOne, NoPlacement}
+use Rattle.calls.proofs.Room.{pages-one-more, count-one-more}
+use Rattle.calls.proofs.Checks.{Sound, answer-valid}
+
+pub record Kept (h : ℕ) (T : List ℕ) (B : Book) : Type 0 where
+  pub height : h ≤ 12
+  pub entries : length T ≡ 4096
+  pub in-order : InOrder h T
+  pub agrees : (t : ℕ) → Agrees h (B t) (nodeAt T t)
+
+count-cong : (n : ℕ) (p q : ℕ → Bool) → ((k : ℕ) → k < n → p k ≡ q k) → count n p ≡ count n q
+count-cong n p q e = count-as-sum n p ∙ sum-cong n (λ k r. ap one-if (e k r)) ∙ sym (count-as-sum n q)
+
+-- the book and the table count the same tenant at a level
+agrees-at-level : (h l : ℕ) (e : Option ℕ) (n : ℕ) → Agrees h e n → at-level e l ≡ (ltb 0 n && eqb (level h n) l)
+agrees-at-level h l none n a = rw a
+agrees-at-level h l (some k) n a = rw (lt-ltb 0 n (a .0 .above-zero), a .1)
+
+module _ (h : ℕ) (T : List ℕ) (B : Book) (K : Kept h T B) where
+  pub sound : Sound h T
+  sound = record { height = K .height; entries = K .entries; in-order = in-order-iff h T (K .height) .1 (K .in-order) }
+
+  pub within : Within h (occupied T)
+  within = occupied-in-tree h T (K .in-order .in-tree)
+
+  pub held-is-size : (l : ℕ) → sizes h (occupied T) l ≡ held B l
+  unfolding tenantsAt held
+  held-is-size l =
+      sym (tenants-are-sizes h T (K .in-order .in-tree) (K .in-order .once) l)
+      ∙ tally-by-tenants _ T
+      ∙ rw (K .entries) (count-cong 4096 _ _ (λ t q. sym (agrees-at-level h l (B t) (nodeAt T t) (K .agrees t))))
+
+  pub held-is-count : (l : ℕ) → held B l ≡ getD (countsOf h T) l 0
+  held-is-count l = sym (held-is-size l) ∙ in-order-counts h T (K .height) (K .in-order) l
+
+  -- the places are the one legal and safe set for the held sizes
+  pub only-safe-set : (A : Nodes) → Within h A → Legal A → Safe h A → ((l : ℕ) → sizes h A l ≡ held B l) → (n : ℕ) → A n ≡ occupied T n
+  only-safe-set A w l s e n =
+      safe-set-is-layout h (countsOf h T) A w l s (λ m. e m ∙ held-is-count m) n
+      ∙ sym (in-order-is-layout h T (K .height) (K .in-order) n)
+
+  module _ (l : ℕ) (l≤h : l ≤ h) where
+    level-in-counts : l < length (countsOf h T)
+    level-in-counts = rw (counts-length h T) (omega (arith, K .height))
+
+    one-more-sizes : (m : ℕ) → withOne B l m ≡ getD (oneMore (countsOf h T) l) m 0
+    one-more-sizes m = ap (λ (c : ℕ). c + one-if (eqb m l)) (held-is-count m) ∙ sym (count-one-more (countsOf h T) l level-in-counts m)
+
+    pub no-room-no-placement : 2 ^ h < pages (countsOf h T) + 2 ^ l → NoPlacement h B l
+    no-room-no-placement over A w e legal =
+        omega (
+          arith,
+          pages-one-more (countsOf h T) l level-in-counts,
+          legal-set-fits h (oneMore (countsOf h T) l) A w legal (λ m. e m ∙ one-more-sizes m),
+        )
+
+    pub room-placement : pages (countsOf h T) + 2 ^ l ≤ 2 ^ h → ¬ NoPlacement h B l
+    room-placement fits none-legal =
+        let cs = oneMore (countsOf h T) l in
+        let f : pages cs ≤ 2 ^ h = rw (pages-one-more (countsOf h T) l level-in-counts) fits in
+        none-legal (layoutSet h cs) (layout-in-tree h cs) (λ m. layout-has-counts h cs f m ∙ sym (one-more-sizes m)) (layout-is-legal h cs f)
