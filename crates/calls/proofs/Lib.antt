@@ -3,3 +3,4 @@ pub mod Room
 pub mod Checks
 pub mod Kept
 pub mod Answers
+pub mod Struck
