@@ -4,8 +4,8 @@ use mathlib.Core.Bool.{Bool, true, false, not, _&&_, cond, true≢false, false�
 use mathlib.Core.List.{List, [], _∷_}
 use Prim.Native.Nat.{ℕ, zero, suc, _+_, _-_, _≤_, _<_}
 use native.Mathlib.Omega.{arith}
-use native.Mathlib.Decide.{ℕ-discrete}
-use borrow.Author.Tests.{ltb-true, ltb-false, leb-true, leb-false, lt-ltb, le-leb, eq-eqb, ne-eqb, not-true}
+use native.Mathlib.Decide.{ℕ-discrete, decLt}
+use borrow.Author.Tests.{ltb-true, ltb-false, leb-true, lt-ltb, le-leb, eq-eqb, ne-eqb, not-true}
 use lib.Dec.{eqb, ltb, leb}
 use lib.ListN.{getD}
 use Rattle.tree.specs.Held.{both}
@@ -125,8 +125,8 @@ one-of-four v w near i e = by-lone (ℕ-discrete i (v .lone)) (ℕ-discrete i (w
 
 -- ---- four tries
 
--- what the best so far is: an index from a on that passes, or none
-record Best (p : ℕ → Bool) (a b : ℕ) : Type 0 where
+-- b is a number from a on that passes, or none
+pub record Found (p : ℕ → Bool) (a b : ℕ) : Type 0 where
   pub from : a ≤ b
   pub fits : b ≤ no-index
   pub passes : b < no-index → p b ≡ true
@@ -150,11 +150,11 @@ module _ (p : ℕ → Bool) (a c best : ℕ) where
       by-test true f = omega arith
       by-test false f = omega (arith, ltb-false c best f)
 
-  better-is-best : Best p a best → Best p a (betterOf p a c best)
+  better-found : Found p a best → Found p a (betterOf p a c best)
   unfolding betterOf
-  better-is-best before = by-tests (leb a c) refl (ltb c best) refl (p c) refl
+  better-found before = by-tests (leb a c) refl (ltb c best) refl (p c) refl
     where
-      by-tests : (s : Bool) → leb a c ≡ s → (t : Bool) → ltb c best ≡ t → (u : Bool) → p c ≡ u → Best p a (cond (both s t && u) c best)
+      by-tests : (s : Bool) → leb a c ≡ s → (t : Bool) → ltb c best ≡ t → (u : Bool) → p c ≡ u → Found p a (cond (both s t && u) c best)
       by-tests true f true g true e =
           record { from = leb-true a c f; fits = omega (arith, before .fits, ltb-true c best g); passes = λ r. e }
       by-tests true f true g false e = before
@@ -167,7 +167,7 @@ pub least-of-four : (v w : Row) (a : ℕ) → Near (v .start) (v .run) (w .start
     (betterOf (onlyIn v w) a (v .lone) (betterOf (onlyIn v w) a (lastOf v) (betterOf (onlyIn v w) a (v .start) no-index)))
 unfolding onlyFrom
 least-of-four v w a near fits =
-    first-is p a (no-index - a) no-index b₄ (omega arith) (best .from) (best .fits) (best .passes) before
+    first-is p a (no-index - a) no-index b₄ (omega arith) (found .from) (found .fits) (found .passes) before
   where
     p : ℕ → Bool
     p = onlyIn v w
@@ -184,12 +184,12 @@ least-of-four v w a near fits =
     b₄ : ℕ
     b₄ = betterOf p a (w .hole) b₃
 
-    best : Best p a b₄
-    best =
-        better-is-best p a (w .hole) b₃
-        (better-is-best p a (v .lone) b₂
-        (better-is-best p a (lastOf v) b₁
-        (better-is-best p a (v .start) no-index (record { from = fits; fits = omega arith; passes = λ q. absurd (omega arith) }))))
+    found : Found p a b₄
+    found =
+        better-found p a (w .hole) b₃
+        (better-found p a (v .lone) b₂
+        (better-found p a (lastOf v) b₁
+        (better-found p a (v .start) no-index (record { from = fits; fits = omega arith; passes = λ q. absurd (omega arith) }))))
 
     tried : (x c b : ℕ) → a ≤ x → p x ≡ true → x ≡ c → betterOf p a c b ≤ x
     tried x c b q e f =
@@ -207,3 +207,44 @@ least-of-four v w a near fits =
 
     before : (x : ℕ) → a ≤ x → x < b₄ → ¬ (p x ≡ true)
     before x q r e = none-at x q r e (one-of-four v w near x e)
+
+-- ---- the indices that are in one row and not in another
+
+module _ (v w : Row) where
+  only-by : (a : ℕ) → a ≤ no-index → Kept (onlyIn v w) a no-index (onlyFrom v w a)
+  unfolding onlyFrom
+  only-by a fits = kept-by (onlyIn v w) a (no-index - a) no-index (omega arith)
+
+  pub least-found : (a : ℕ) → a ≤ no-index → Found (onlyIn v w) a (leastOnly v w a)
+  least-found a fits = by-kept (only-by a fits)
+    where
+      by-kept : Kept (onlyIn v w) a no-index (onlyFrom v w a) → Found (onlyIn v w) a (leastOnly v w a)
+      by-kept (none-kept e) = rw e (record { from = fits; fits = omega arith; passes = λ q. absurd (omega arith) })
+      by-kept (first-kept i q r f e) = rw e (record { from = q; fits = omega arith; passes = λ _. f })
+
+  pub only-none : onlyFrom v w no-index ≡ []
+  unfolding onlyFrom
+  only-none = refl
+
+  pub only-cons : (i : ℕ) → i < no-index → onlyIn v w i ≡ true → onlyFrom v w i ≡ i ∷ onlyFrom v w (suc i)
+  unfolding onlyFrom
+  only-cons i q e = rw (left, e)
+    where
+      left : no-index - i ≡ suc (no-index - suc i)
+      left = omega arith
+
+  -- those from a on are those from the least on
+  pub only-from-least : (a : ℕ) → a ≤ no-index → onlyFrom v w (leastOnly v w a) ≡ onlyFrom v w a
+  unfolding onlyFrom
+  only-from-least a fits = by-kept (only-by a fits)
+    where
+      by-kept : Kept (onlyIn v w) a no-index (onlyFrom v w a) → onlyFrom v w (leastOnly v w a) ≡ onlyFrom v w a
+      by-kept (none-kept e) = rw e only-none
+      by-kept (first-kept i q r f e) = rw e (only-cons i r f)
+
+  pub found-is-least : (i : ℕ) → Found (onlyIn v w) 0 i → leastOnly v w i ≡ i
+  found-is-least i s =
+      elim (decLt i no-index) [
+        | yes q ↦ rw (only-cons i q (s .passes q))
+        | no q ↦ let e : i ≡ no-index = omega arith in rw (e, only-none)
+      ]

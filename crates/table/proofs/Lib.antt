@@ -1,3 +1,4 @@
 pub mod Tally
 pub mod Order
 pub mod Least
+pub mod Shifting

@@ -1,13 +1,18 @@
 -- The planner's view of a level: a row of blocks by index, what is in one row and not in another, and the list of moves.
-use mathlib.Core.Bool.{Bool, not, _&&_, cond}
-use mathlib.Core.List.{List}
-use Prim.Native.Nat.{ℕ, _+_, _-_}
+use mathlib.Core.Path.{_≡_}
+use mathlib.Core.Bool.{Bool, true, not, _&&_, cond}
+use mathlib.Core.List.{List, _++_, map}
+use Prim.Native.Nat.{ℕ, _+_, _-_, _^_, _<_}
 use lib.Dec.{eqb, leb, ltb}
-use lib.ListN.{getD}
+use lib.ListN.{getD, length, take}
 use Rattle.tree.specs.Held.{both}
 use Rattle.layout.specs.Layout.{either}
-use Rattle.table.specs.Pairing.{upFrom, keep}
+use Rattle.layout.specs.Runs.{Near}
+use Rattle.table.specs.Pairing.{upFrom, keep, Shift, pair}
+use Rattle.table.specs.declared.Move.{Move}
+use Rattle.table.specs.declared.plan.Plan.{Plan}
 use Rattle.table.specs.declared.plan.Row.{Row}
+use Rattle.table.specs.declared.plan.Shifted.{Shifted}
 
 -- what stands for an index where there is none
 abbrev pub no-index : ℕ
@@ -36,3 +41,37 @@ leastOnly v w a = getD (onlyFrom v w a) 0 no-index
 -- the candidate c, where it is at least a, less than the best so far, and passes the test; else the best so far
 unfoldable pub betterOf : (ℕ → Bool) → ℕ → ℕ → ℕ → ℕ
 betterOf p a c best = cond (both (leb a c) (ltb c best) && p c) c best
+
+-- the moves of a plan: its first n entries
+abbrev pub movesIn : Plan → List Move
+movesIn p = take (p .n) (p .moves)
+
+-- the nodes with the given indices on the level whose first node is b
+abbrev pub nodesAt : ℕ → List ℕ → List ℕ
+nodesAt b is = map (λ i. b + i) is
+
+-- what changes on that level from the one row to the other: the nodes left, paired left to right with the new ones
+unfoldable pub levelShifts : ℕ → Row → Row → List Shift
+levelShifts b v w = pair (nodesAt b (onlyFrom v w 0)) (nodesAt b (onlyFrom w v 0))
+
+-- the index of the first new node that the pairing leaves over
+unfoldable pub spareIndex : Row → Row → ℕ
+spareIndex v w = getD (onlyFrom w v 0) (length (onlyFrom v w 0)) no-index
+
+-- the move of a shift, where the array has each node's tenant and one
+abbrev pub moveOf : List ℕ → Shift → Move
+moveOf owners s = record { tenant = getD owners (s .from) 0 - 1; from = s .from; to = s .to }
+
+-- What is asked of two rows of a level whose first node is b: their runs are near, and every block of the old row has a tenant.
+pub record Shiftable (b : ℕ) (old new : Row) (owners : List ℕ) : Type 0 where
+  pub near : Near (old .start) (old .run) (new .start) (new .run)
+  pub old-fits : old .start + old .run < 2 ^ 16
+  pub new-fits : new .start + new .run < 2 ^ 16
+  pub leaves : (i : ℕ) → i < no-index → rowHolds old i ≡ true → (b + i < 8192) × (0 < getD owners (b + i) 0)
+  pub takes : (i : ℕ) → i < no-index → rowHolds new i ≡ true → b + i < 2 ^ 16
+
+-- the plan with the level's moves at its end, and the index of the place left over
+pub record LevelShifted (b : ℕ) (old new : Row) (owners : List ℕ) (before : Plan) (after : Shifted) : Type 0 where
+  pub moves : movesIn (after .plan) ≡ movesIn before ++ map (moveOf owners) (levelShifts b old new)
+  pub count : after .plan .n ≡ before .n + length (levelShifts b old new)
+  pub spare : after .spare ≡ spareIndex old new
