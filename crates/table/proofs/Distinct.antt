@@ -6,6 +6,7 @@ use mathlib.Core.Logic.{_⊎_, inl, inr}
 use mathlib.Core.List.{List, [], _∷_, _++_, map}
 use mathlib.Core.List.{List·Memᴰ as In, List·Memᴰ·head as at-head, List·Memᴰ·tail as in-tail}
 use mathlib.Core.List.{List·Memᴰ·not-nil as in-nothing, List·Memᴰ·cases-cons as head-or-tail, List·Memᴰ·append-cases as in-either, Memᴰ·cast as in-cast}
+use mathlib.Core.List.{Memᴰ·map as in-map, Memᴰ·of-map as of-map}
 use Prim.Native.Nat.{ℕ, zero, suc, _+_, _≤_, _<_}
 use native.Mathlib.Omega.{arith}
 use borrow.Author.Tests.{eqb-true, eq-eqb, ne-eqb}
@@ -54,25 +55,13 @@ distinct-append (x ∷ xs) ys u v apart = (not-again, distinct-append xs ys (u .
 
 -- ---- a list mapped
 
-pub in-map : {A B : Type 0} (f : A → B) {a : A} {xs : List A} → In a xs → In (f a) (map f xs)
-in-map f (at-head e) = at-head (ap f e)
-in-map f (in-tail m) = in-tail (in-map f m)
-
-pub of-map : {A B : Type 0} (f : A → B) (xs : List A) {b : B} → In b (map f xs) → (a : A) × In a xs × (b ≡ f a)
-of-map f [] m = absurd (in-nothing m)
-of-map {A} f (x ∷ xs) {b} m = go (head-or-tail m) (of-map f xs)
-  where
-    go : (b ≡ f x) ⊎ In b (map f xs) → (In b (map f xs) → (a : A) × In a xs × (b ≡ f a)) → (a : A) × In a (x ∷ xs) × (b ≡ f a)
-    go (inl e) rest = (x, at-head refl, e)
-    go (inr m′) rest = let r = rest m′ in (r .0, in-tail (r .1), r .2)
-
 -- f keeps the members apart
 pub distinct-map : (f : ℕ → ℕ) (xs : List ℕ) → Distinct xs → ((x y : ℕ) → In x xs → In y xs → f x ≡ f y → x ≡ y) → Distinct (map f xs)
 distinct-map f [] u apart = tt
 distinct-map f (x ∷ xs) u apart = (not-again, distinct-map f xs (u .1) (λ y z m k. apart y z (in-tail m) (in-tail k)))
   where
     not-again : ¬ In (f x) (map f xs)
-    not-again m = let r = of-map f xs m in u .0 (in-cast (apart x (r .0) (at-head refl) (in-tail (r .1)) (r .2)) (r .1))
+    not-again m = let r = of-map f xs m in u .0 (in-cast (apart x (r .0) (at-head refl) (in-tail (r .1)) (sym (r .2))) (r .1))
 
 -- two members with one value are one member
 pub same-by-value : {A : Type 0} (f : A → ℕ) (xs : List A) → Distinct (map f xs) → {a b : A} → In a xs → In b xs → f a ≡ f b → a ≡ b

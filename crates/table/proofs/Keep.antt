@@ -119,11 +119,6 @@ pub record Leaves (h : ℕ) (A B : Nodes) (l n : ℕ) : Type 0 where
   pub gone : ¬ (B n ≡ true)
 
 module _ (h : ℕ) (A B : Nodes) (l : ℕ) where
-  -- the places are the leavers with the sets exchanged
-  pub places-as-leavers : places h A B l ≡ leavers h B A l
-  unfolding places leavers
-  places-as-leavers = refl
-
   pub of-leavers : l ≤ h → (n : ℕ) → In n (leavers h A B l) → Leaves h A B l n
   unfolding leavers
   of-leavers q n m =
@@ -139,9 +134,24 @@ module _ (h : ℕ) (A B : Nodes) (l : ℕ) where
   in-leavers n v =
       in-keep (λ k. A k && not (B k)) (levelNodes h l) n (in-levelNodes h l n (v .of-level)) (passes-only-first (A n) (B n) (v .held) (v .gone))
 
-  pub distinct-leavers : Distinct (leavers h A B l)
+  pub no-leaver-twice : Distinct (leavers h A B l)
   unfolding leavers
-  distinct-leavers = distinct-keep (λ k. A k && not (B k)) (levelNodes h l) (distinct-upFrom (2 ^ (h - l)) (2 ^ (h - l)))
+  no-leaver-twice = distinct-keep (λ k. A k && not (B k)) (levelNodes h l) (distinct-upFrom (2 ^ (h - l)) (2 ^ (h - l)))
+
+-- the places are the leavers with the sets exchanged
+module _ (h : ℕ) (A B : Nodes) (l : ℕ) where
+  pub places-as-leavers : places h A B l ≡ leavers h B A l
+  unfolding places leavers
+  places-as-leavers = refl
+
+  pub of-places : l ≤ h → (n : ℕ) → In n (places h A B l) → Leaves h B A l n
+  of-places q n m = of-leavers h B A l q n (rw places-as-leavers at m)
+
+  pub in-places : (n : ℕ) → Leaves h B A l n → In n (places h A B l)
+  in-places n v = rw places-as-leavers (in-leavers h B A l n v)
+
+  pub no-place-twice : Distinct (places h A B l)
+  no-place-twice = rw places-as-leavers (no-leaver-twice h B A l)
 
 -- ---- how many there are
 
@@ -152,7 +162,7 @@ atLevel h A l n = both (A n) (eqb (level h n) l)
 -- as many as there are nodes of level l in A and not in B
 pub leavers-counted : (h : ℕ) (A B : Nodes) → Within h A → (l : ℕ) → l ≤ h
     → length (leavers h A B l) ≡ count (2 ^ suc h) (onlyFirst (atLevel h A l) (atLevel h B l))
-leavers-counted h A B within l q = length-as-count (2 ^ suc h) test (leavers h A B l) (distinct-leavers h A B l) passes listed
+leavers-counted h A B within l q = length-as-count (2 ^ suc h) test (leavers h A B l) (no-leaver-twice h A B l) passes listed
   where
     test : ℕ → Bool
     test = onlyFirst (atLevel h A l) (atLevel h B l)

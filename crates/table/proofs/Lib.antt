@@ -1,3 +1,4 @@
 pub mod Distinct
 pub mod Keep
+pub mod Pair
 pub mod Shifts
