@@ -2,3 +2,6 @@ pub mod Distinct
 pub mod Keep
 pub mod Pair
 pub mod Shifts
+pub mod Occupied
+pub mod Moved
+pub mod Newcomer
