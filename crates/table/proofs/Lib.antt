@@ -1,2 +1,9 @@
 pub mod Tally
 pub mod Order
+pub mod Distinct
+pub mod Keep
+pub mod Pair
+pub mod Shifts
+pub mod Occupied
+pub mod Moved
+pub mod Newcomer

@@ -42,7 +42,7 @@ one-if-true false e = absurd (false≢true e)
 abbrev pub onlyFirst : (ℕ → Bool) → (ℕ → Bool) → ℕ → Bool
 onlyFirst f g k = both (f k) (not (g k))
 
-differences-of-counts : (n : ℕ) (f g : ℕ → Bool) → count n (onlyFirst f g) + count n g ≡ count n (onlyFirst g f) + count n f
+pub differences-of-counts : (n : ℕ) (f g : ℕ → Bool) → count n (onlyFirst f g) + count n g ≡ count n (onlyFirst g f) + count n f
 unfolding count
 differences-of-counts zero f g = refl
 differences-of-counts (suc n) f g = omega (arith, differences-of-bits (f n) (g n), differences-of-counts n f g)
