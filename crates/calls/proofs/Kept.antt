@@ -64,7 +64,7 @@ module _ (h : ℕ) (T : List ℕ) (B : Book) (K : Kept h T B) where
       ∙ sym (in-order-is-layout h T (K .height) (K .in-order) n)
 
   module _ (l : ℕ) (l≤h : l ≤ h) where
-    level-in-counts : l < length (countsOf h T)
+    pub level-in-counts : l < length (countsOf h T)
     level-in-counts = rw (counts-length h T) (omega (arith, K .height))
 
     one-more-sizes : (m : ℕ) → withOne B l m ≡ getD (oneMore (countsOf h T) l) m 0

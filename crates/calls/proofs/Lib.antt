@@ -4,3 +4,5 @@ pub mod Checks
 pub mod Kept
 pub mod Answers
 pub mod Struck
+pub mod Grant
+pub mod Release
