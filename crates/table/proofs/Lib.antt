@@ -5,3 +5,4 @@ pub mod Shifts
 pub mod Occupied
 pub mod Moved
 pub mod Newcomer
+pub mod Moves
