@@ -1,18 +1,18 @@
 -- Lists in which nothing stands twice: their members by place, lists made of two, lists mapped; and that such a list is as long as the count
 -- of the numbers that stand in it.
 use mathlib.Core.Path.{_≡_, refl, sym, ap, _∙_}
-use mathlib.Core.Bool.{Bool, true, false, not}
+use mathlib.Core.Bool.{Bool, true}
 use mathlib.Core.Logic.{_⊎_, inl, inr}
 use mathlib.Core.List.{List, [], _∷_, _++_, map}
 use mathlib.Core.List.{List·Memᴰ as In, List·Memᴰ·head as at-head, List·Memᴰ·tail as in-tail}
-use mathlib.Core.List.{List·Memᴰ·not-nil as in-nothing, List·Memᴰ·cases-cons as head-or-tail, List·Memᴰ·append-cases as in-either, Memᴰ·cast as in-cast}
-use mathlib.Core.List.{Memᴰ·map as in-map, Memᴰ·of-map as of-map}
-use Prim.Native.Nat.{ℕ, zero, suc, _+_, _≤_, _<_}
+use mathlib.Core.List.{List·Memᴰ·not-nil as in-nothing, List·Memᴰ·cases-cons as head-or-tail, List·Memᴰ·append-cases as in-either}
+use mathlib.Core.List.{Memᴰ·cast as in-cast, Memᴰ·map as in-map, Memᴰ·of-map as of-map}
+use Prim.Native.Nat.{ℕ, zero, suc, _≤_, _<_}
 use native.Mathlib.Omega.{arith}
-use borrow.Author.Tests.{eqb-true, eq-eqb, ne-eqb}
+use borrow.Author.Tests.{eqb-true, eq-eqb}
 use lib.Dec.{eqb}
 use lib.ListN.{length, getD}
-use Rattle.tree.specs.Held.{both, count}
+use Rattle.tree.specs.Held.{count}
 use Rattle.tree.proofs.Sum.{count-le-one, count-of-none}
 use Rattle.tree.proofs.Count.{onlyFirst, differences-of-counts, count-of-one, passes-first, fails-second, passes-only-first}
 

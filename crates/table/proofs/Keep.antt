@@ -14,7 +14,7 @@ use lib.Dec.{eqb}
 use lib.ListN.{length}
 use lib.Pow.{pow-pos, pow-mono}
 use Rattle.tree.specs.Node.{InTree, depth, level}
-use Rattle.tree.specs.Held.{Nodes, Held, Within, both, count, sizes}
+use Rattle.tree.specs.Held.{Nodes, Within, both, count, sizes}
 use Rattle.tree.proofs.Highest.{Highest, depth-highest, depth-is}
 use Rattle.tree.proofs.Coordinates.{depth-le}
 use Rattle.tree.proofs.Sets.{both-left, both-right}
@@ -89,50 +89,46 @@ pub record OfLevel (h l n : ℕ) : Type 0 where
 pub of-levelNodes : (h l n : ℕ) → l ≤ h → In n (levelNodes h l) → OfLevel h l n
 of-levelNodes h l n q m =
     let r = of-upFrom (2 ^ (h - l)) (2 ^ (h - l)) n m in
+    let deeper : suc (h - l) ≤ suc h = omega arith in
     let d : depth n ≡ h - l = depth-is (h - l) n (record { low = r .0; high = omega (arith, r .1, pow-suc 2 (h - l)) }) in
     record {
       in-tree = record {
         above-zero = omega (arith, r .0, pow-pos (h - l));
-        in-height = omega (arith, r .1, pow-suc 2 (h - l), pow-mono (suc-sub-le h l));
+        in-height = omega (arith, r .1, pow-suc 2 (h - l), pow-mono deeper);
       };
       level-is = rw d (omega arith);
     }
-  where
-    suc-sub-le : (x y : ℕ) → suc (x - y) ≤ suc x
-    suc-sub-le x y = omega arith
 
 pub in-levelNodes : (h l n : ℕ) → OfLevel h l n → In n (levelNodes h l)
 in-levelNodes h l n o =
     let t = o .in-tree in
-    let highest : Highest (h - l) n = rw (depth-of (o .level-is) (depth-le h n t)) at (depth-highest n (t .above-zero)) in
+    let d : depth n ≡ h - l = omega (arith, o .level-is, depth-le h n t) in
+    let highest : Highest (h - l) n = rw d at (depth-highest n (t .above-zero)) in
     in-upFrom (2 ^ (h - l)) (2 ^ (h - l)) n (highest .low) (omega (arith, highest .high, pow-suc 2 (h - l)))
-  where
-    depth-of : level h n ≡ l → depth n ≤ h → depth n ≡ h - l
-    depth-of e d = omega arith
 
 -- ---- the leavers of a level
 
 -- n is a node of level l that is in the set A and not in B
-pub record Leaves (h : ℕ) (A B : Nodes) (l n : ℕ) : Type 0 where
+pub record OnlyIn (h : ℕ) (A B : Nodes) (l n : ℕ) : Type 0 where
   pub of-level : OfLevel h l n
   pub held : A n ≡ true
-  pub gone : ¬ (B n ≡ true)
+  pub not-held : ¬ (B n ≡ true)
 
 module _ (h : ℕ) (A B : Nodes) (l : ℕ) where
-  pub of-leavers : l ≤ h → (n : ℕ) → In n (leavers h A B l) → Leaves h A B l n
+  pub of-leavers : l ≤ h → (n : ℕ) → In n (leavers h A B l) → OnlyIn h A B l n
   unfolding leavers
   of-leavers q n m =
       let r = of-keep (λ k. A k && not (B k)) (levelNodes h l) n m in
       record {
         of-level = of-levelNodes h l n q (r .0);
         held = passes-first (A n) (B n) (r .1);
-        gone = fails-second (A n) (B n) (r .1);
+        not-held = fails-second (A n) (B n) (r .1);
       }
 
-  pub in-leavers : (n : ℕ) → Leaves h A B l n → In n (leavers h A B l)
+  pub in-leavers : (n : ℕ) → OnlyIn h A B l n → In n (leavers h A B l)
   unfolding leavers
   in-leavers n v =
-      in-keep (λ k. A k && not (B k)) (levelNodes h l) n (in-levelNodes h l n (v .of-level)) (passes-only-first (A n) (B n) (v .held) (v .gone))
+      in-keep (λ k. A k && not (B k)) (levelNodes h l) n (in-levelNodes h l n (v .of-level)) (passes-only-first (A n) (B n) (v .held) (v .not-held))
 
   pub no-leaver-twice : Distinct (leavers h A B l)
   unfolding leavers
@@ -144,10 +140,10 @@ module _ (h : ℕ) (A B : Nodes) (l : ℕ) where
   unfolding places leavers
   places-as-leavers = refl
 
-  pub of-places : l ≤ h → (n : ℕ) → In n (places h A B l) → Leaves h B A l n
+  pub of-places : l ≤ h → (n : ℕ) → In n (places h A B l) → OnlyIn h B A l n
   of-places q n m = of-leavers h B A l q n (rw places-as-leavers at m)
 
-  pub in-places : (n : ℕ) → Leaves h B A l n → In n (places h A B l)
+  pub in-places : (n : ℕ) → OnlyIn h B A l n → In n (places h A B l)
   in-places n v = rw places-as-leavers (in-leavers h B A l n v)
 
   pub no-place-twice : Distinct (places h A B l)
@@ -172,7 +168,7 @@ leavers-counted h A B within l q = length-as-count (2 ^ suc h) test (leavers h A
         let v = of-leavers h A B l q n m in
         let here : eqb (level h n) l ≡ true = eq-eqb (level h n) l (v .of-level .level-is) in (
           v .of-level .in-tree .in-height,
-          passes-only-first (atLevel h A l n) (atLevel h B l n) (rw (v .held, here)) (λ e. v .gone (both-left (B n) (eqb (level h n) l) e)),
+          passes-only-first (atLevel h A l n) (atLevel h B l n) (rw (v .held, here)) (λ e. v .not-held (both-left (B n) (eqb (level h n) l) e)),
         )
 
     listed : (n : ℕ) → n < 2 ^ suc h → test n ≡ true → In n (leavers h A B l)
@@ -184,7 +180,7 @@ leavers-counted h A B within l q = length-as-count (2 ^ suc h) test (leavers h A
         (record {
           of-level = record { in-tree = within n held; level-is = eqb-true (level h n) l here };
           held = held;
-          gone = λ b. fails-second (atLevel h A l n) (atLevel h B l n) e (rw (b, here));
+          not-held = λ b. fails-second (atLevel h A l n) (atLevel h B l n) e (rw (b, here));
         })
 
 -- so on each level the places are more than the leavers by as much as the new set is larger than the old one

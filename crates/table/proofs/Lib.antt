@@ -7,3 +7,4 @@ pub mod Shifts
 pub mod Occupied
 pub mod Moved
 pub mod Newcomer
+pub mod Moves

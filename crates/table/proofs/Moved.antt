@@ -1,19 +1,19 @@
 -- The table after everybody has moved into the new set: each tenant with a node has one node of the new set, of the same level; who can stay
 -- stays; no two share a node; and where the new set has no more nodes than the old one, the occupied nodes are the new set.
-use mathlib.Core.Path.{_≡_, refl, sym, ap, _∙_}
-use mathlib.Core.Bool.{Bool, true, false}
+use mathlib.Core.Path.{_≡_, refl, sym, _∙_}
+use mathlib.Core.Bool.{true}
 use mathlib.Core.List.{List}
-use Prim.Native.Nat.{ℕ, zero, suc, _^_, _≤_, _<_}
+use Prim.Native.Nat.{ℕ, suc, _^_, _≤_, _<_}
 use native.Mathlib.Omega.{arith}
 use native.Mathlib.Decide.{decLt}
 use lib.ListN.{length, length-map, List·getD-map}
-use Rattle.tree.specs.Node.{InTree, level}
+use Rattle.tree.specs.Node.{level}
 use Rattle.tree.specs.Held.{Nodes, Within, sizes}
 use Rattle.tree.proofs.Count.{equal-of-both-ways}
 use Rattle.table.specs.Table.{nodeOf, withNode, nodeAt, occupied}
 use Rattle.table.specs.Pairing.{shifts, goes, moved}
 use Rattle.table.proofs.Shifts.{Room, Reached, goes-nowhere-in-new, goes-nowhere-out-of-old, goes-into-new, goes-level, goes-apart, goes-fills}
-use Rattle.table.proofs.Occupied.{occupied-above-zero, tenant-of, occupied-by}
+use Rattle.table.proofs.Occupied.{occupied-above-zero, tenant-of, occupied-by, occupied-within, nodes-in-tree}
 
 -- a table of nodes of the tree, none twice, and a set of nodes that has room for them on each level
 pub record Movable (h : ℕ) (N : Nodes) (T : List ℕ) : Type 0 where
@@ -27,14 +27,8 @@ unfolding moved
 moved-length h N T = length-map T (λ e. withNode e (goes (shifts h (occupied T) N) (nodeOf e)))
 
 module _ {h : ℕ} {N : Nodes} {T : List ℕ} (M : Movable h N T) where
-  -- the occupied nodes are in the tree
-  pub occupied-within : Within h (occupied T)
-  occupied-within n p =
-      let v = tenant-of T n p in
-      record { above-zero = occupied-above-zero T n p; in-height = rw (v .2) at (M .in-tree (v .0)) }
-
   pub room-of : Room h (occupied T) N
-  room-of = record { old = occupied-within; new = M .within; room = M .room }
+  room-of = record { old = occupied-within h T (M .in-tree); new = M .within; room = M .room }
 
   zero-not-occupied : ¬ (occupied T 0 ≡ true)
   zero-not-occupied p = omega (arith, occupied-above-zero T 0 p)
@@ -87,6 +81,9 @@ module _ {h : ℕ} {N : Nodes} {T : List ℕ} (M : Movable h N T) where
       let v = tenant-of T (r .before) (r .held) in
       let there : nodeAt (moved h N T) (v .0) ≡ n = moved-at (v .0) ∙ rw (v .2) (r .arrives) in
       rw there at (occupied-by (moved h N T) (v .0) (rw there p))
+
+  pub moved-in-tree : (t : ℕ) → nodeAt (moved h N T) t < 2 ^ suc h
+  moved-in-tree = nodes-in-tree h (moved h N T) (λ n p. M .within n (moved-only-to-new n p))
 
   -- on a level with as many nodes in the new set as before, all are taken
   pub moved-fills : (l : ℕ) → sizes h (occupied T) l ≡ sizes h N l → (n : ℕ) → level h n ≡ l → N n ≡ true → occupied (moved h N T) n ≡ true

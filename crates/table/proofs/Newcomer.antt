@@ -1,21 +1,21 @@
 -- The table after a grant: where the new set has one node more, on level x, the newcomer's node is the one that nobody has moved to, and with
 -- the newcomer on it the occupied nodes are the new set.
 use mathlib.Core.Path.{_≡_, refl, sym, ap, _∙_}
-use mathlib.Core.Bool.{Bool, true, false}
+use mathlib.Core.Bool.{true}
 use mathlib.Core.List.{List}
-use Prim.Native.Nat.{ℕ, zero, suc, _≤_, _<_}
+use Prim.Native.Nat.{ℕ, suc, _^_, _≤_, _<_}
 use native.Mathlib.Omega.{arith}
 use native.Mathlib.Decide.{ℕ-discrete}
 use lib.ListN.{length, set}
 use lib.Seq.{getD-set-same, getD-set-other}
-use Rattle.tree.specs.Node.{InTree, level}
+use Rattle.tree.specs.Node.{level}
 use Rattle.tree.specs.Held.{Nodes, sizes}
 use Rattle.tree.proofs.Count.{equal-of-both-ways}
 use Rattle.table.specs.Table.{nodeAt, occupied}
 use Rattle.table.specs.Pairing.{newcomer, moved}
-use Rattle.table.proofs.Keep.{OfLevel, Leaves}
-use Rattle.table.proofs.Shifts.{newcomer-enters, goes-not-to-newcomer, goes-fills-but-newcomer}
-use Rattle.table.proofs.Occupied.{occupied-above-zero, tenant-of, occupied-by}
+use Rattle.table.proofs.Keep.{OnlyIn}
+use Rattle.table.proofs.Shifts.{newcomer-place, goes-not-to-newcomer, goes-fills-but-newcomer}
+use Rattle.table.proofs.Occupied.{occupied-above-zero, tenant-of, occupied-by, nodes-in-tree}
 use Rattle.table.proofs.Moved.{Movable, moved-length, room-of, moved-at, moved-nothing, moved-held-before, moved-once, moved-only-to-new}
 use Rattle.table.proofs.Moved.{occupied-if-reached, moved-fills}
 
@@ -30,17 +30,17 @@ abbrev pub granted : ℕ → Nodes → List ℕ → ℕ → ℕ → List ℕ
 granted h N T x t = set (moved h N T) t (newcomer h (occupied T) N x)
 
 module _ {h : ℕ} {N : Nodes} {T : List ℕ} (M : Movable h N T) {x : ℕ} (G : OneMore h (occupied T) N x) where
-  newcomer-leaves : Leaves h N (occupied T) x (newcomer h (occupied T) N x)
-  newcomer-leaves = newcomer-enters (room-of M) x (G .in-height) (G .grown)
+  newcomer-only-new : OnlyIn h N (occupied T) x (newcomer h (occupied T) N x)
+  newcomer-only-new = newcomer-place (room-of M) x (G .in-height) (G .grown)
 
   pub newcomer-in-new : N (newcomer h (occupied T) N x) ≡ true
-  newcomer-in-new = newcomer-leaves .held
+  newcomer-in-new = newcomer-only-new .held
 
   pub newcomer-level : level h (newcomer h (occupied T) N x) ≡ x
-  newcomer-level = newcomer-leaves .of-level .level-is
+  newcomer-level = newcomer-only-new .of-level .level-is
 
   pub newcomer-above-zero : 0 < newcomer h (occupied T) N x
-  newcomer-above-zero = newcomer-leaves .of-level .in-tree .above-zero
+  newcomer-above-zero = newcomer-only-new .of-level .in-tree .above-zero
 
   nobody-at-newcomer : (u : ℕ) → ¬ (nodeAt (moved h N T) u ≡ newcomer h (occupied T) N x)
   nobody-at-newcomer u e =
@@ -86,6 +86,9 @@ module _ {h : ℕ} {N : Nodes} {T : List ℕ} (M : Movable h N T) {x : ℕ} (G :
         go u e (no ne) =
             let there : nodeAt (moved h N T) u ≡ n = sym (granted-others u ne) ∙ e in
             moved-only-to-new M n (rw there at (occupied-by (moved h N T) u (rw there (occupied-above-zero (granted h N T x t) n p))))
+
+    pub granted-in-tree : (u : ℕ) → nodeAt (granted h N T x t) u < 2 ^ suc h
+    granted-in-tree = nodes-in-tree h (granted h N T x t) (λ n p. M .within n (granted-only-new n p))
 
     occupied-in-granted : (u n : ℕ) → 0 < n → nodeAt (granted h N T x t) u ≡ n → occupied (granted h N T x t) n ≡ true
     occupied-in-granted u n p e = rw e at (occupied-by (granted h N T x t) u (rw e p))

@@ -1,13 +1,15 @@
 -- A node is occupied exactly when it is above 0 and some tenant has it; `ownerOf` finds that tenant.
-use mathlib.Core.Path.{_≡_, refl, sym, ap, _∙_}
-use mathlib.Core.Bool.{Bool, true, false, _&&_, _||_, cond, false≢true}
+use mathlib.Core.Path.{_≡_, refl}
+use mathlib.Core.Bool.{Bool, true, false, _||_, cond, false≢true}
 use mathlib.Core.List.{List, [], _∷_}
-use Prim.Native.Nat.{ℕ, zero, suc, _≤_, _<_}
+use Prim.Native.Nat.{ℕ, zero, suc, _^_, _<_}
 use native.Mathlib.Omega.{arith}
 use native.Mathlib.Decide.{decLt}
 use borrow.Author.Tests.{eqb-true, eq-eqb, ltb-true, lt-ltb}
 use lib.Dec.{eqb, ltb}
-use lib.ListN.{length, getD, List·getD-eq-default}
+use lib.ListN.{length, List·getD-eq-default}
+use lib.Pow.{pow-pos}
+use Rattle.tree.specs.Held.{Within}
 use Rattle.tree.proofs.Sets.{both-left, both-right}
 use Rattle.table.specs.Table.{nodeOf, nodeAt, stands, occupied}
 use Rattle.table.specs.Pairing.{ownerOf}
@@ -61,3 +63,16 @@ tenant-of T n p = let v = owner-has T n p in (ownerOf T n, v .in-table, v .node-
 pub occupied-by : (T : List ℕ) (t : ℕ) → 0 < nodeAt T t → occupied T (nodeAt T t) ≡ true
 unfolding occupied
 occupied-by T t p = rw (lt-ltb 0 (nodeAt T t) p) (stands-at T t (tenant-below T t p))
+
+-- the tenants' nodes are in the tree exactly when the occupied ones are
+pub occupied-within : (h : ℕ) (T : List ℕ) → ((t : ℕ) → nodeAt T t < 2 ^ suc h) → Within h (occupied T)
+occupied-within h T in-tree n p =
+    let v = tenant-of T n p in
+    record { above-zero = occupied-above-zero T n p; in-height = rw (v .2) at (in-tree (v .0)) }
+
+pub nodes-in-tree : (h : ℕ) (T : List ℕ) → Within h (occupied T) → (t : ℕ) → nodeAt T t < 2 ^ suc h
+nodes-in-tree h T within t = go (decLt 0 (nodeAt T t))
+  where
+    go : Dec (0 < nodeAt T t) → nodeAt T t < 2 ^ suc h
+    go (yes p) = within (nodeAt T t) (occupied-by T t p) .in-height
+    go (no q) = omega (arith, pow-pos (suc h))

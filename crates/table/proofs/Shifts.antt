@@ -3,18 +3,19 @@
 use mathlib.Core.Path.{_≡_, refl, sym, ap, subst, _∙_}
 use mathlib.Core.Bool.{Bool, true, false, false≢true}
 use mathlib.Core.Logic.{_⊎_, inl, inr}
-use mathlib.Core.List.{List, [], _∷_, _++_, map, map-append}
+use mathlib.Core.List.{List, map, map-append}
 use mathlib.Core.List.{List·Memᴰ as In, List·Memᴰ·not-nil as in-nothing, List·Memᴰ·append-cases as in-either}
-use mathlib.Core.List.{Memᴰ·append-left as in-left, Memᴰ·append-right as in-right, Memᴰ·of-map as of-map}
-use Prim.Native.Nat.{ℕ, zero, suc, _+_, _≤_, _<_}
+use mathlib.Core.List.{Memᴰ·append-left as in-left, Memᴰ·append-right as in-right, Memᴰ·cast as in-cast, Memᴰ·map as in-map, Memᴰ·of-map as of-map}
+use Prim.Native.Nat.{ℕ, zero, suc, _+_, _^_, _≤_, _<_}
 use native.Mathlib.Omega.{arith}
 use native.Mathlib.Decide.{ℕ-discrete}
-use lib.ListN.{length, getD}
+use lib.ListN.{length, getD, length-map}
 use Rattle.tree.specs.Node.{level}
-use Rattle.tree.specs.Held.{Nodes, Within, sizes}
+use Rattle.tree.specs.Held.{Nodes, Within, count, sizes}
+use Rattle.tree.proofs.Count.{onlyFirst, passes-first, fails-second, passes-only-first}
 use Rattle.table.specs.Pairing.{leavers, places, Shift, pair, shiftsFrom, shifts, goes, newcomer}
-use Rattle.table.proofs.Distinct.{Distinct, place-of, at-place, distinct-places, distinct-append, same-by-value}
-use Rattle.table.proofs.Keep.{Leaves, of-leavers, in-leavers, no-leaver-twice, of-places, in-places, no-place-twice, places-and-leavers}
+use Rattle.table.proofs.Distinct.{Distinct, place-of, at-place, distinct-places, distinct-append, same-by-value, length-as-count}
+use Rattle.table.proofs.Keep.{OnlyIn, of-leavers, in-leavers, no-leaver-twice, of-places, in-places, no-place-twice, places-and-leavers}
 use Rattle.table.proofs.Pair.{in-pair, of-pair, pair-from-in, pair-to-in, distinct-pair-froms, distinct-pair-tos, Goes, stays, moves, goes-by}
 
 -- ---- the shifts of all levels
@@ -58,10 +59,10 @@ module _ {h : ℕ} {S N : Nodes} (R : Room h S N) where
   pub enough-places : (l : ℕ) → l ≤ h → length (leavers h S N l) ≤ length (places h S N l)
   enough-places l q = omega (arith, places-and-leavers h S N (R .old) (R .new) l q, R .room l)
 
-  pub leaves-at : (l : ℕ) → l ≤ h → (s : Shift) → In s (pairAt h S N l) → Leaves h S N l (s .from)
+  pub leaves-at : (l : ℕ) → l ≤ h → (s : Shift) → In s (pairAt h S N l) → OnlyIn h S N l (s .from)
   leaves-at l q s m = of-leavers h S N l q (s .from) (pair-from-in (leavers h S N l) (places h S N l) s m)
 
-  pub enters-at : (l : ℕ) → l ≤ h → (s : Shift) → In s (pairAt h S N l) → Leaves h N S l (s .to)
+  pub enters-at : (l : ℕ) → l ≤ h → (s : Shift) → In s (pairAt h S N l) → OnlyIn h N S l (s .to)
   enters-at l q s m = of-places h S N l q (s .to) (pair-to-in (leavers h S N l) (places h S N l) s m)
 
   pub level-of-shift : (s : Shift) → In s (shifts h S N) → (l : ℕ) × (l ≤ h) × In s (pairAt h S N l)
@@ -72,7 +73,7 @@ module _ {h : ℕ} {S N : Nodes} (R : Room h S N) where
   unfolding shifts
   shift-of-level l q s m = in-shiftsFrom h S N 0 (suc h) l s (omega arith) (omega arith) m
 
-  -- one that shares nothing within a level, and tells the levels apart, shares nothing at all
+  -- f reads a node off each shift: if that is a node of the shift's level, and no two shifts of a level share it, no two at all do
   distinct-levels : (f : Shift → ℕ) → ((l : ℕ) → l ≤ h → Distinct (map f (pairAt h S N l)))
       → ((l : ℕ) → l ≤ h → (s : Shift) → In s (pairAt h S N l) → level h (f s) ≡ l)
       → (l n : ℕ) → l + n ≤ suc h → Distinct (map f (shiftsFrom h S N l n))
@@ -118,17 +119,46 @@ module _ {h : ℕ} {S N : Nodes} (R : Room h S N) where
       go (stays none same) = absurd (none s m refl)
       go (moves t k f there) = there ∙ ap (λ (v : Shift). v .to) (same-by-value (λ v. v .from) (shifts h S N) distinct-froms k m f)
 
-  -- the j-th leaver of a level goes to the j-th place of the level
+  -- the j-th leaver of a level is shifted to the j-th place of the level
+  shift-in-turn : (l j : ℕ) → l ≤ h → j < length (leavers h S N l)
+      → In (record { from = getD (leavers h S N l) j 0; to = getD (places h S N l) j 0 }) (shifts h S N)
+  shift-in-turn l j q r =
+      shift-of-level l q (record { from = getD (leavers h S N l) j 0; to = getD (places h S N l) j 0 })
+      (in-pair (leavers h S N l) (places h S N l) j r (omega (arith, enough-places l q)))
+
   pub goes-in-turn : (l j : ℕ) → l ≤ h → j < length (leavers h S N l) → goes (shifts h S N) (getD (leavers h S N l) j 0) ≡ getD (places h S N l) j 0
-  goes-in-turn l j q r =
-      let s : Shift = record { from = getD (leavers h S N l) j 0; to = getD (places h S N l) j 0 } in
-      goes-with s (shift-of-level l q s (in-pair (leavers h S N l) (places h S N l) j r (omega (arith, enough-places l q))))
+  goes-in-turn l j q r = goes-with (record { from = getD (leavers h S N l) j 0; to = getD (places h S N l) j 0 }) (shift-in-turn l j q r)
 
-  old-of-shift : (s : Shift) → In s (shifts h S N) → (S (s .from) ≡ true) × (¬ (N (s .from) ≡ true))
-  old-of-shift s m = let r = level-of-shift s m in let v = leaves-at (r .0) (r .1) s (r .2) in (v .held, v .gone)
+  leaver-place : (n : ℕ) → S n ≡ true → ¬ (N n ≡ true)
+      → (j : ℕ) × (j < length (leavers h S N (level h n))) × (getD (leavers h S N (level h n)) j 0 ≡ n)
+  leaver-place n held gone =
+      place-of 0
+      (in-leavers h S N (level h n) n (record { of-level = record { in-tree = R .old n held; level-is = refl }; held = held; not-held = gone }))
 
-  new-of-shift : (s : Shift) → In s (shifts h S N) → (N (s .to) ≡ true) × (¬ (S (s .to) ≡ true))
-  new-of-shift s m = let r = level-of-shift s m in let v = enters-at (r .0) (r .1) s (r .2) in (v .held, v .gone)
+  pub old-of-shift : (s : Shift) → In s (shifts h S N) → (S (s .from) ≡ true) × (¬ (N (s .from) ≡ true))
+  old-of-shift s m = let r = level-of-shift s m in let v = leaves-at (r .0) (r .1) s (r .2) in (v .held, v .not-held)
+
+  pub new-of-shift : (s : Shift) → In s (shifts h S N) → (N (s .to) ≡ true) × (¬ (S (s .to) ≡ true))
+  new-of-shift s m = let r = level-of-shift s m in let v = enters-at (r .0) (r .1) s (r .2) in (v .held, v .not-held)
+
+  -- there are as many shifts as nodes of the old set that are not in the new one
+  pub shifts-counted : length (shifts h S N) ≡ count (2 ^ suc h) (onlyFirst S N)
+  shifts-counted =
+      sym (length-map (shifts h S N) (λ s. s .from))
+      ∙ length-as-count (2 ^ suc h) (onlyFirst S N) (map (λ s. s .from) (shifts h S N)) distinct-froms passes listed
+    where
+      passes : (n : ℕ) → In n (map (λ s. s .from) (shifts h S N)) → (n < 2 ^ suc h) × (onlyFirst S N n ≡ true)
+      passes n m =
+          let r = of-map (λ (s : Shift). s .from) (shifts h S N) m in
+          let v = old-of-shift (r .0) (r .1) in
+          let held : S n ≡ true = rw (r .2) at (v .0) in
+          let gone : ¬ (N n ≡ true) = rw (r .2) at (v .1) in
+          (R .old n held .in-height, passes-only-first (S n) (N n) held gone)
+
+      listed : (n : ℕ) → n < 2 ^ suc h → onlyFirst S N n ≡ true → In n (map (λ s. s .from) (shifts h S N))
+      listed n q e =
+          let p = leaver-place n (passes-first (S n) (N n) e) (fails-second (S n) (N n) e) in
+          in-cast (sym (p .2)) (in-map (λ (s : Shift). s .from) (shift-in-turn (level h n) (p .0) (omega arith) (p .1)))
 
   -- a node of the new set is nobody's to leave
   pub goes-nowhere-in-new : (n : ℕ) → N n ≡ true → goes (shifts h S N) n ≡ n
@@ -147,12 +177,10 @@ module _ {h : ℕ} {S N : Nodes} (R : Room h S N) where
       go (moves s m f there) = absurd (out (rw f at (old-of-shift s m .0)))
 
   -- who has to leave comes to a node of the same level that is in the new set and not in the old one
-  pub goes-to-new : (n : ℕ) → S n ≡ true → ¬ (N n ≡ true) → Leaves h N S (level h n) (goes (shifts h S N) n)
+  pub goes-to-new : (n : ℕ) → S n ≡ true → ¬ (N n ≡ true) → OnlyIn h N S (level h n) (goes (shifts h S N) n)
   goes-to-new n held gone =
       let q : level h n ≤ h = omega arith in
-      let m = in-leavers h S N (level h n) n
-      (record { of-level = record { in-tree = R .old n held; level-is = refl }; held = held; gone = gone }) in
-      let p = place-of 0 m in
+      let p = leaver-place n held gone in
       let there : goes (shifts h S N) n ≡ getD (places h S N (level h n)) (p .0) 0 = rw (p .2) at (goes-in-turn (level h n) (p .0) q (p .1)) in
       rw there
       (of-places h S N (level h n) q (getD (places h S N (level h n)) (p .0) 0)
@@ -197,7 +225,7 @@ module _ {h : ℕ} {S N : Nodes} (R : Room h S N) where
         arrives = goes-in-turn l j q r ∙ e;
       }
 
-  -- a node of the new set is one that somebody stays on, or a place
+  -- somebody stays on a node of the new set, or it is a place; so it is left to show that a place is reached
   by-place : (l n : ℕ) → level h n ≡ l → N n ≡ true → ((j : ℕ) → j < length (places h S N l) → getD (places h S N l) j 0 ≡ n → Reached h S N n)
       → Reached h S N n
   by-place l n at-l new to-place = by-old (S n) refl
@@ -205,8 +233,8 @@ module _ {h : ℕ} {S N : Nodes} (R : Room h S N) where
       by-old : (b : Bool) → S n ≡ b → Reached h S N n
       by-old true e = record { before = n; held = e; arrives = goes-nowhere-in-new n new }
       by-old false e =
-          let v : Leaves h N S l n =
-          record { of-level = record { in-tree = R .new n new; level-is = at-l }; held = new; gone = λ t. false≢true (sym e ∙ t) } in
+          let v : OnlyIn h N S l n =
+          record { of-level = record { in-tree = R .new n new; level-is = at-l }; held = new; not-held = λ t. false≢true (sym e ∙ t) } in
           let p = place-of 0 (in-places h S N l n v) in
           to-place (p .0) (p .1) (p .2)
 
@@ -222,9 +250,9 @@ module _ {h : ℕ} {S N : Nodes} (R : Room h S N) where
     one-place-over : length (places h S N x) ≡ suc (length (leavers h S N x))
     one-place-over = omega (arith, places-and-leavers h S N (R .old) (R .new) x q)
 
-    pub newcomer-enters : Leaves h N S x (newcomer h S N x)
+    pub newcomer-place : OnlyIn h N S x (newcomer h S N x)
     unfolding newcomer
-    newcomer-enters =
+    newcomer-place =
         of-places h S N x q (newcomer h S N x) (at-place 0 (places h S N x) (length (leavers h S N x)) (omega (arith, one-place-over)))
 
     pub goes-not-to-newcomer : (n : ℕ) → S n ≡ true → ¬ (goes (shifts h S N) n ≡ newcomer h S N x)
@@ -232,12 +260,12 @@ module _ {h : ℕ} {S N : Nodes} (R : Room h S N) where
     goes-not-to-newcomer n held e = go (goes-by (shifts h S N) n)
       where
         go : Goes (shifts h S N) n → ⊥
-        go (stays none same) = newcomer-enters .gone (rw (sym e ∙ same) held)
+        go (stays none same) = newcomer-place .not-held (rw (sym e ∙ same) held)
         go (moves s m f there) =
             let r = level-of-shift s m in
             let to-is : s .to ≡ newcomer h S N x = sym there ∙ e in
             let level-x : r .0 ≡ x =
-            sym (enters-at (r .0) (r .1) s (r .2) .of-level .level-is) ∙ ap (level h) to-is ∙ newcomer-enters .of-level .level-is in
+            sym (enters-at (r .0) (r .1) s (r .2) .of-level .level-is) ∙ ap (level h) to-is ∙ newcomer-place .of-level .level-is in
             let p = of-pair (leavers h S N x) (places h S N x) s (subst (λ l. In s (pairAt h S N l)) level-x (r .2)) in
             let last : p .at ≡ length (leavers h S N x) =
             distinct-places 0 (places h S N x) (no-place-twice h S N x) (p .at) (length (leavers h S N x)) (p .in-second)
