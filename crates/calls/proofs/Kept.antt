@@ -32,7 +32,7 @@ pub record Kept (h : ℕ) (T : List ℕ) (B : Book) : Type 0 where
   pub in-order : InOrder h T
   pub agrees : (t : ℕ) → Agrees h (B t) (nodeAt T t)
 
-count-cong : (n : ℕ) (p q : ℕ → Bool) → ((k : ℕ) → k < n → p k ≡ q k) → count n p ≡ count n q
+pub count-cong : (n : ℕ) (p q : ℕ → Bool) → ((k : ℕ) → k < n → p k ≡ q k) → count n p ≡ count n q
 count-cong n p q e = count-as-sum n p ∙ sum-cong n (λ k r. ap one-if (e k r)) ∙ sym (count-as-sum n q)
 
 -- the book and the table count the same tenant at a level

@@ -6,3 +6,5 @@ pub mod Answers
 pub mod Struck
 pub mod Grant
 pub mod Release
+pub mod Cases
+pub mod Reported
