@@ -56,14 +56,14 @@ module _ (h : ℕ) (T : List ℕ) (B : Book) (K : Kept h T B) (t l : ℕ) (t<409
     room = λ m. omega (arith, new-sizes m);
   }
 
-  grant-one-more : OneMore h (occupied T) new-set l
+  pub grant-one-more : OneMore h (occupied T) new-set l
   grant-one-more = record {
     in-height = l≤h;
     grown = omega (arith, new-sizes l, ap one-if (eq-eqb l l refl));
     others = λ m ne. omega (arith, new-sizes m, ap one-if (ne-eqb m l ne));
   }
 
-  t-in-table : t < length T
+  pub t-in-table : t < length T
   t-in-table = rw (K .entries) t<4096
 
   pub grant-occupies : (n : ℕ) → occupied (granted h new-set T l t) n ≡ new-set n

@@ -8,3 +8,5 @@ pub mod Grant
 pub mod Release
 pub mod Cases
 pub mod Reported
+pub mod Box
+pub mod Demand
