@@ -8,3 +8,4 @@ pub mod Occupied
 pub mod Moved
 pub mod Newcomer
 pub mod Moves
+pub mod Written
