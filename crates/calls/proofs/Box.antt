@@ -37,7 +37,7 @@ IsRelease (release t m) = Unit {0}
 is-release : (c : Call) → Releases c → IsRelease c
 is-release c releases = tt
 
-grants-do-not-release : (c : Call) (l : ℕ) → Asks c l → ¬ Releases c
+pub grants-do-not-release : (c : Call) (l : ℕ) → Asks c l → ¬ Releases c
 grants-do-not-release c l by-level r = is-release _ r
 grants-do-not-release c l by-pages r = is-release _ r
 

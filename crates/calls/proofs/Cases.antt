@@ -35,7 +35,7 @@ pub data Case (h : ℕ) (T : List ℕ) (c : Call) : Type 0 where
   by-release : Released h T c → Case h T c
   by-refusal : (n : ℕ) → step h T c ≡ refused (suc n) T → Case h T c
 
-both-zero : (xs ys : List Check) → Numbered xs → first (xs ++ ys) ≡ 0 → (first xs ≡ 0) × (first ys ≡ 0)
+pub both-zero : (xs ys : List Check) → Numbered xs → first (xs ++ ys) ≡ 0 → (first xs ≡ 0) × (first ys ≡ 0)
 both-zero [] ys n e = (refl, e)
 both-zero (c ∷ xs) ys n e = go (c .applies) e (both-zero xs ys (n .1))
   where

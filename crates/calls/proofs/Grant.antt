@@ -42,7 +42,7 @@ module _ (h : ℕ) (T : List ℕ) (B : Book) (K : Kept h T B) (t l : ℕ) (t<409
   pub new-counts-fit : pages new-counts ≤ 2 ^ h
   new-counts-fit = rw (pages-one-more (countsOf h T) l (level-in-counts h T B K l l≤h)) fits
 
-  new-sizes : (m : ℕ) → sizes h new-set m ≡ sizes h (occupied T) m + one-if (eqb m l)
+  pub new-sizes : (m : ℕ) → sizes h new-set m ≡ sizes h (occupied T) m + one-if (eqb m l)
   new-sizes m =
       layout-has-counts h new-counts new-counts-fit m
       ∙ count-one-more (countsOf h T) l (level-in-counts h T B K l l≤h) m

@@ -10,3 +10,4 @@ pub mod Cases
 pub mod Reported
 pub mod Box
 pub mod Demand
+pub mod Accepted

@@ -56,7 +56,7 @@ module _ (h : ℕ) (T : List ℕ) (B : Book) (K : Kept h T B) (t : ℕ) (t<4096 
   fewer-counts-fit =
       omega (arith, pages-one-more fewer-counts old-level level-in-fewer, ap pages counts-before, in-order-fits h T (K .height) (K .in-order))
 
-  fewer-sizes : (m : ℕ) → sizes h (occupied struck) m ≡ sizes h fewer-set m
+  pub fewer-sizes : (m : ℕ) → sizes h (occupied struck) m ≡ sizes h fewer-set m
   fewer-sizes m =
       struck-sizes h T t (K .in-order) t-in-table holds (K .height) m ∙ sym (layout-has-counts h fewer-counts fewer-counts-fit m)
 
