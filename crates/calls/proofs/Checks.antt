@@ -27,7 +27,7 @@ first-of-sound h T (grant-pages t p m) s = rw (le-ltb 12 h (s .height), eq-eqb (
 first-of-sound h T (release t m) s = rw (le-ltb 12 h (s .height), eq-eqb (length T) 4096 (s .entries), s .in-order)
 
 -- a refusal's number is not 0
-abbrev Numbered : List Check → Type 0
+abbrev pub Numbered : List Check → Type 0
 Numbered [] = Unit {0}
 Numbered (c ∷ cs) = (0 < c .number) × Numbered cs
 
@@ -48,7 +48,7 @@ first-stands (c ∷ xs) ys ne = go (c .applies) ne (first-stands xs ys)
     go true z rest = refl
     go false z rest = rest z
 
-validity-numbered : (h : ℕ) (c : Call) → Numbered (validity h c)
+pub validity-numbered : (h : ℕ) (c : Call) → Numbered (validity h c)
 validity-numbered h (grant-level t l m) = (omega arith, (omega arith, (omega arith, tt)))
 validity-numbered h (grant-pages t p m) = (omega arith, (omega arith, (omega arith, tt)))
 validity-numbered h (release t m) = (omega arith, (omega arith, tt))
@@ -72,11 +72,11 @@ module _ (h : ℕ) (T : List ℕ) (s : Sound h T) where
   answer-valid c v = answer-is-first h T c ∙ first-of-sound h T c s ∙ first-after-none (validity h c) (holdings h T c) (validity-numbered h c) v
 
 -- what a valid call's arguments are
-not-applied : (n : ℕ) (b : Bool) (cs : List Check) → 0 < n → first (check n b ∷ cs) ≡ 0 → b ≡ false
+pub not-applied : (n : ℕ) (b : Bool) (cs : List Check) → 0 < n → first (check n b ∷ cs) ≡ 0 → b ≡ false
 not-applied n true cs p e = absurd (omega arith)
 not-applied n false cs p e = refl
 
-rest-zero : (n : ℕ) (b : Bool) (cs : List Check) → 0 < n → first (check n b ∷ cs) ≡ 0 → first cs ≡ 0
+pub rest-zero : (n : ℕ) (b : Bool) (cs : List Check) → 0 < n → first (check n b ∷ cs) ≡ 0 → first cs ≡ 0
 rest-zero n true cs p e = absurd (omega arith)
 rest-zero n false cs p e = e
 

@@ -32,7 +32,7 @@ pub record Kept (h : ℕ) (T : List ℕ) (B : Book) : Type 0 where
   pub in-order : InOrder h T
   pub agrees : (t : ℕ) → Agrees h (B t) (nodeAt T t)
 
-count-cong : (n : ℕ) (p q : ℕ → Bool) → ((k : ℕ) → k < n → p k ≡ q k) → count n p ≡ count n q
+pub count-cong : (n : ℕ) (p q : ℕ → Bool) → ((k : ℕ) → k < n → p k ≡ q k) → count n p ≡ count n q
 count-cong n p q e = count-as-sum n p ∙ sum-cong n (λ k r. ap one-if (e k r)) ∙ sym (count-as-sum n q)
 
 -- the book and the table count the same tenant at a level
@@ -64,7 +64,7 @@ module _ (h : ℕ) (T : List ℕ) (B : Book) (K : Kept h T B) where
       ∙ sym (in-order-is-layout h T (K .height) (K .in-order) n)
 
   module _ (l : ℕ) (l≤h : l ≤ h) where
-    level-in-counts : l < length (countsOf h T)
+    pub level-in-counts : l < length (countsOf h T)
     level-in-counts = rw (counts-length h T) (omega (arith, K .height))
 
     one-more-sizes : (m : ℕ) → withOne B l m ≡ getD (oneMore (countsOf h T) l) m 0

@@ -4,3 +4,10 @@ pub mod Checks
 pub mod Kept
 pub mod Answers
 pub mod Struck
+pub mod Grant
+pub mod Release
+pub mod Cases
+pub mod Reported
+pub mod Box
+pub mod Demand
+pub mod Accepted

@@ -2,3 +2,4 @@ pub mod Call
 pub mod Step
 pub mod History
 pub mod Demand
+pub mod Accepted

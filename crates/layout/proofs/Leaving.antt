@@ -30,7 +30,7 @@ either-right : (a b : Bool) → b ≡ true → either a b ≡ true
 either-right true b p = refl
 either-right false b p = p
 
-count-mono : (n : ℕ) (p q : ℕ → Bool) → ((k : ℕ) → p k ≡ true → q k ≡ true) → count n p ≤ count n q
+pub count-mono : (n : ℕ) (p q : ℕ → Bool) → ((k : ℕ) → p k ≡ true → q k ≡ true) → count n p ≤ count n q
 unfolding count
 count-mono zero p q f = omega arith
 count-mono (suc n) p q f = omega (arith, one-if-mono (p n) (q n) (f n), count-mono n p q f)

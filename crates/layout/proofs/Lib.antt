@@ -15,3 +15,13 @@ pub mod Pages
 pub mod Leaving
 pub mod Theorems
 pub mod Starred
+pub mod Bounds
+pub mod Counting
+pub mod Below
+pub mod Levels
+pub mod Rows
+pub mod RowCases
+pub mod Expected
+pub mod Writing
+pub mod Climbing
+pub mod Turn

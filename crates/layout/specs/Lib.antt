@@ -4,3 +4,6 @@ pub mod Runs
 pub mod Set
 pub mod Leaving
 pub mod Starred
+pub mod Counts
+pub mod Rows
+pub mod Climb

@@ -1,4 +1,13 @@
 pub mod Tally
 pub mod Order
+pub mod Distinct
+pub mod Keep
+pub mod Pair
+pub mod Shifts
+pub mod Occupied
+pub mod Moved
+pub mod Newcomer
+pub mod Moves
+pub mod Written
 pub mod Least
 pub mod Shifting

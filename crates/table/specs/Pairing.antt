@@ -5,7 +5,7 @@ use mathlib.Core.Bool.{Bool, true, false, not, _&&_, cond}
 use mathlib.Core.List.{List, [], _∷_, _++_, map}
 use Prim.Native.Nat.{ℕ, zero, suc, _-_, _^_}
 use lib.Dec.{eqb}
-use lib.ListN.{getD, length}
+use lib.ListN.{getD, length, set}
 use Rattle.tree.specs.Held.{Nodes}
 use Rattle.table.specs.Table.{nodeOf, withNode, occupied}
 use Rattle.table.specs.declared.Move.{Move}
@@ -71,3 +71,8 @@ moved h N T = map (λ e. withNode e (goes (shifts h (occupied T) N) (nodeOf e)))
 -- the list of moves: each shift with the tenant that it moves
 unfoldable pub movesOf : ℕ → Nodes → List ℕ → List Move
 movesOf h N T = map (λ s. record { tenant = ownerOf T (s .from); from = s .from; to = s .to }) (shifts h (occupied T) N)
+
+-- the table with the moves of a list carried out, entry by entry
+unfoldable pub written : List ℕ → List Move → List ℕ
+written T [] = T
+written T (m ∷ ms) = written (set T (m .tenant) (withNode (getD T (m .tenant) 0) (m .to))) ms

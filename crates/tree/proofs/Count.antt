@@ -1,9 +1,9 @@
 -- Two tests with equal counts: as many numbers pass only the first as pass only the second. And what a count of one or two says.
 use mathlib.Core.Path.{_≡_, refl, sym}
 use mathlib.Core.Bool.{Bool, true, false, not, false≢true}
-use Prim.Native.Nat.{ℕ, zero, suc, _+_, _≤_, _<_}
+use Prim.Native.Nat.{ℕ, zero, suc, _+_, _<_}
 use native.Mathlib.Omega.{arith}
-use native.Mathlib.Decide.{ℕ-discrete, decLt}
+use native.Mathlib.Decide.{ℕ-discrete}
 use Rattle.tree.specs.Held.{both, one-if, count}
 
 -- ---- two Boolean values
@@ -42,7 +42,7 @@ one-if-true false e = absurd (false≢true e)
 abbrev pub onlyFirst : (ℕ → Bool) → (ℕ → Bool) → ℕ → Bool
 onlyFirst f g k = both (f k) (not (g k))
 
-differences-of-counts : (n : ℕ) (f g : ℕ → Bool) → count n (onlyFirst f g) + count n g ≡ count n (onlyFirst g f) + count n f
+pub differences-of-counts : (n : ℕ) (f g : ℕ → Bool) → count n (onlyFirst f g) + count n g ≡ count n (onlyFirst g f) + count n f
 unfolding count
 differences-of-counts zero f g = refl
 differences-of-counts (suc n) f g = omega (arith, differences-of-bits (f n) (g n), differences-of-counts n f g)
@@ -85,16 +85,3 @@ one-of-count (suc n) f c = by-last (f n) refl (one-of-count n f)
         let c′ : 0 < one-if false + count n f = rw e at c in
         let r = ih (omega arith) in
         (r .0, omega arith, r .2)
-
-pub count-at-most-one : (n : ℕ) (f : ℕ → Bool) → ((j k : ℕ) → f j ≡ true → f k ≡ true → j ≡ k) → count n f ≤ 1
-unfolding count
-count-at-most-one zero f only = omega arith
-count-at-most-one (suc n) f only = by-last (f n) refl (count-at-most-one n f only)
-  where
-    by-last : (x : Bool) → f n ≡ x → count n f ≤ 1 → one-if (f n) + count n f ≤ 1
-    by-last true e ih =
-        elim (decLt 0 (count n f)) [
-          | yes c ↦ let r = one-of-count n f c in absurd (omega (arith, only (r .0) n (r .2) e))
-          | no nc ↦ rw e (omega arith)
-        ]
-    by-last false e ih = rw e (omega arith)

@@ -16,7 +16,9 @@ use lib.Pow.{pow-pos, pow-add, pow-mono}
 use Rattle.tree.specs.Held.{count}
 use Rattle.tree.specs.Block.{Block, first, past, Blocks, BWithin, bsizes, Inside, BLegal, BFree, BTail, BMeager, BSafe}
 use Rattle.tree.proofs.Count.{onlyFirst, passes-only-first, passes-first, fails-second, equal-of-both-ways, equal-differences}
-use Rattle.tree.proofs.Count.{count-of-one, count-of-two, one-of-count, count-at-most-one}
+use Rattle.tree.proofs.Count.{count-of-one, count-of-two, one-of-count}
+use Rattle.tree.proofs.Sum.{count-le-one}
+use Rattle.tree.proofs.Align.{first<past}
 
 -- ---- blocks and their pages
 
@@ -43,9 +45,6 @@ not-lower-starts-past u v q s =
 lower-ends-no-later : (u v : Block) → u .level < v .level → first u ≡ first v → past u ≤ past v
 lower-ends-no-later u v q e = omega (arith, pow-mono (le-of-lt q))
 
-not-empty : (b : Block) → first b < past b
-not-empty b = omega (arith, pow-pos (b .level))
-
 lower-differs : (u v : Block) → v .level < u .level → ¬ (u ≡ v)
 lower-differs u v q e = omega (arith, ap (λ (z : Block). z .level) e)
 
@@ -53,13 +52,13 @@ lower-differs u v q e = omega (arith, ap (λ (z : Block). z .level) e)
 legal-in-order : {A : Blocks} → BLegal A → (u v : Block) → A u ≡ true → A v ≡ true → ¬ (u ≡ v) → first u ≤ first v → past u ≤ first v
 legal-in-order legal u v au av ne q =
     elim (decLt (first v) (past u)) [
-      | yes r ↦ absurd (ne (legal u v au av (record { a-first = omega (arith, not-empty v); b-first = r })))
+      | yes r ↦ absurd (ne (legal u v au av (record { a-first = omega (arith, first<past v); b-first = r })))
       | no nr ↦ omega arith
     ]
 
 legal-excludes-inside : {A : Blocks} → BLegal A → (c b : Block) → Inside c b → A b ≡ true → ¬ (A c ≡ true)
 legal-excludes-inside legal c b i ab ac =
-    omega (arith, legal-in-order legal b c ab ac (lower-differs b c (i .lower)) (i .from), i .to, not-empty c)
+    omega (arith, legal-in-order legal b c ab ac (lower-differs b c (i .lower)) (i .from), i .to, first<past c)
 
 -- ---- two sets of blocks that agree on all that starts before a page
 
@@ -139,7 +138,7 @@ at-most-one-only {h} {A = A} {B} {l} s same x y =
             count-of-two (2 ^ h) (onlyFirst (row A l) (row B l)) (x .block .index) (y .block .index) ne
                 (only-index s x) (only-index s y) (only-in-row x) (only-in-row y),
             equal-row-differences s l,
-            count-at-most-one (2 ^ h) (onlyFirst (row B l) (row A l))
+            count-le-one (2 ^ h) (onlyFirst (row B l) (row A l))
                 (λ j k p q. ap (λ (b : Block). b .index) (same (only-of-row B A l j p) (only-of-row B A l k q))),
           ))
     ]

@@ -1,0 +1,176 @@
+-- Demand 2 for every height, table and call.
+use mathlib.Core.Path.{_≡_, refl, sym, ap, _∙_, subst, fun-ext}
+use mathlib.Core.Bool.{Bool, true, false, not, cond}
+use mathlib.Core.List.{List, [], _∷_, _++_}
+use mathlib.Core.Option.{Option, some, none}
+use mathlib.Core.Logic.{_⊎_, inl, inr}
+use Prim.Native.Nat.{ℕ, zero, suc, _+_, _^_, _≤_, _<_}
+use native.Mathlib.Omega.{arith}
+use native.Mathlib.Decide.{ℕ-discrete}
+use borrow.Author.Tests.{ltb-false, eqb-true, eqb-false, not-false, eq-eqb, ne-eqb}
+use lib.Dec.{eqb, ltb}
+use lib.ListN.{length, getD, set, length-set}
+use Rattle.tree.specs.Node.{InTree, level}
+use Rattle.tree.specs.Held.{Nodes, Within, Legal, Safe, sizes, one-if}
+use Rattle.layout.specs.Set.{layoutSet}
+use Rattle.layout.specs.Change.{oneMore, oneFewer}
+use Rattle.layout.proofs.Theorems.{layout-has-counts}
+use Rattle.table.specs.Table.{nodeAt, occupied, countsOf, in-order?, InOrder}
+use Rattle.table.specs.Pairing.{moved, movesOf}
+use Rattle.table.proofs.Order.{in-order-iff, in-order-counts, occupied-in-tree}
+use Rattle.table.proofs.Moved.{Movable, moved-nothing, moved-level, moved-holds, moved-stays}
+use Rattle.table.proofs.Newcomer.{granted-newcomer, granted-others, newcomer-level, newcomer-above-zero}
+use Rattle.table.proofs.Moves.{Moves, moves-in-list, move-of, one-move-each}
+use Rattle.calls.specs.Call.{Call, grant-level, grant-pages, release, tenantOf, levelFor}
+use Rattle.calls.specs.Step.{Outcome, first, reserve-checks, check, validity, holdings, checks, granted, released, refused, step}
+use Rattle.calls.specs.History.{Book}
+use Rattle.calls.specs.Demand.{Agrees, Asks, by-level, by-pages, Releases}
+use Rattle.calls.specs.Accepted.{Shifted, nobody, Settled, AfterGrant, AfterRelease, Demand2}
+use Rattle.calls.proofs.Checks.{Sound, answer-is-first, validity-numbered, not-applied, rest-zero}
+use Rattle.calls.proofs.Room.{count-one-more}
+use Rattle.calls.proofs.Kept.{Kept}
+use Rattle.calls.proofs.Struck.{node-after-set, node-beside-set}
+use Rattle.calls.proofs.Grant.{grant-movable, grant-one-more, t-in-table, grant-in-order, grant-occupies, new-sizes}
+use Rattle.calls.proofs.Release.{release-movable, release-in-order, release-occupies, counts-before, level-in-fewer, fewer-counts-fit}
+use Rattle.calls.proofs.Cases.{both-zero, Granted, Released, Case, by-grant, by-release, by-refusal, case}
+use Rattle.calls.proofs.Box.{grants-do-not-release}
+
+-- the book that a table in order gives
+abbrev bookOf : ℕ → List ℕ → Book
+bookOf h T t = cond (eqb (nodeAt T t) 0) none (some (level h (nodeAt T t)))
+
+kept-of-order : (h : ℕ) (T : List ℕ) → h ≤ 12 → length T ≡ 4096 → InOrder h T → Kept h T (bookOf h T)
+kept-of-order h T q e o = record { height = q; entries = e; in-order = o; agrees = λ t. go t (eqb (nodeAt T t) 0) refl }
+  where
+    go : (t : ℕ) (b : Bool) → eqb (nodeAt T t) 0 ≡ b → Agrees h (cond b none (some (level h (nodeAt T t)))) (nodeAt T t)
+    go t true p = eqb-true (nodeAt T t) 0 p
+    go t false p = (record { above-zero = positive (nodeAt T t) (eqb-false (nodeAt T t) 0 p); in-height = o .in-tree t }, refl)
+      where
+        positive : (n : ℕ) → ¬ (n ≡ 0) → 0 < n
+        positive n ne = omega arith
+
+-- an accepted call has passed 1, 2 and 7
+sound-if-accepted : (h : ℕ) (T : List ℕ) (c : Call) → step h T c .answer ≡ 0 → Sound h T
+sound-if-accepted h T c e =
+    let z : first (checks h T c) ≡ 0 = sym (answer-is-first h T c) ∙ e in
+    let table-on = check 7 (not (in-order? h T)) ∷ holdings h T c in
+    let length-on = check 2 (not (eqb (length T) 4096)) ∷ (validity h c ++ table-on) in
+    let z₂ = rest-zero 1 (ltb 12 h) length-on (omega arith) z in
+    let z₃ = rest-zero 2 (not (eqb (length T) 4096)) (validity h c ++ table-on) (omega arith) z₂ in
+    let z₇ = both-zero (validity h c) table-on (validity-numbered h c) z₃ .1 in
+    record {
+      height = ltb-false 12 h (not-applied 1 (ltb 12 h) length-on (omega arith) z);
+      entries = eqb-true (length T) 4096 (not-false (eqb (length T) 4096) (not-applied 2 (not (eqb (length T) 4096)) (validity h c ++ table-on) (omega arith) z₂));
+      in-order = not-false (in-order? h T) (not-applied 7 (not (in-order? h T)) (holdings h T c) (omega arith) z₇);
+    }
+
+module _ {h : ℕ} {N : Nodes} {T₁ : List ℕ} (M : Movable h N T₁) (T : List ℕ) (t : ℕ) (out : nodeAt T₁ t ≡ 0)
+    (before : (u : ℕ) → ¬ (u ≡ t) → nodeAt T₁ u ≡ nodeAt T u) (o : Outcome)
+    (after : (u : ℕ) → ¬ (u ≡ t) → nodeAt (o .table) u ≡ nodeAt (moved h N T₁) u)
+    (moves : o .moves ≡ movesOf h N T₁) (order : InOrder h (o .table)) (occupies : (n : ℕ) → occupied (o .table) n ≡ N n) where
+  listed-shifted : (m : _) → Moves h N T₁ m → Shifted t T (o .table) m
+  listed-shifted m v =
+      let other : ¬ (m .tenant ≡ t) = λ e. omega (arith, v .from-above-zero, v .from-is, ap (nodeAt T₁) e, out) in
+      record {
+        other = other;
+        old = v .from-is ∙ before (m .tenant) other;
+        new = v .to-is ∙ sym (after (m .tenant) other);
+        had-one = v .from-above-zero;
+        has-one = v .to-above-zero;
+        differ = v .differ;
+      }
+
+  settled : Settled h t T o
+  settled = record {
+    within = occupied-in-tree h (o .table) (order .in-tree);
+    legal = order .legal;
+    safe = order .safe;
+    stays = λ u ne p q. after u ne ∙ moved-stays M u (rw (before u ne) (sym (occupies (nodeAt T u)) ∙ q)) ∙ before u ne;
+    same-level = λ u ne p. ap (level h) (after u ne) ∙ moved-level M u (rw (before u ne) p) ∙ ap (level h) (before u ne);
+    still-holds = λ u ne p. rw (after u ne) (moved-holds M u (rw (before u ne) p));
+    still-nothing = λ u ne z. after u ne ∙ moved-nothing M u (before u ne ∙ z);
+    listed = λ i q. rw moves (listed-shifted _ (moves-in-list M nobody i (rw (← moves) q)));
+    all-listed = λ u ne p d. rw moves (move-of M nobody u (rw (before u ne) p) (λ e. d (after u ne ∙ e ∙ before u ne)));
+    once = λ i j p q e. one-move-each M nobody i j (rw (← moves) p) (rw (← moves) q) (rw moves at e);
+  }
+
+module _ (h : ℕ) (T : List ℕ) (c : Call) (e : step h T c .answer ≡ 0) where
+  the-sound : Sound h T
+  the-sound = sound-if-accepted h T c e
+
+  the-kept : Kept h T (bookOf h T)
+  the-kept =
+      kept-of-order h T (the-sound .height) (the-sound .entries) (in-order-iff h T (the-sound .height) .0 (the-sound .in-order))
+
+  after-grant : (l : ℕ) → Granted h T c l → AfterGrant h T (tenantOf c) l (step h T c)
+  after-grant l g =
+      let t = tenantOf c in
+      let B = bookOf h T in
+      let K = the-kept in
+      let M = grant-movable h T B K t l (g .tenant) (g .nothing) (g .in-height) (g .fits) in
+      let G = grant-one-more h T B K t l (g .tenant) (g .nothing) (g .in-height) (g .fits) in
+      let q = t-in-table h T B K t l (g .tenant) (g .nothing) (g .in-height) (g .fits) in
+      let order = grant-in-order h T B K t l (g .tenant) (g .nothing) (g .in-height) (g .fits) in
+      let occupies = grant-occupies h T B K t l (g .tenant) (g .nothing) (g .in-height) (g .fits) in
+      rw (g .outcome) (record {
+        settled = settled M T t (g .nothing) (λ u ne. refl) (granted h T _ t l) (granted-others M G t q (g .nothing)) refl order occupies;
+        sized = λ m. ap (λ (A : Nodes). sizes h A m) (fun-ext occupies) ∙ new-sizes h T B K t l (g .tenant) (g .nothing) (g .in-height) (g .fits) m;
+        had-nothing = g .nothing;
+        newcomer = granted-newcomer M G t q (g .nothing);
+        on-level = newcomer-level M G;
+        a-node = newcomer-above-zero M G;
+      })
+
+  after-release : Released h T c → AfterRelease h T (tenantOf c) (step h T c)
+  after-release r =
+      let t = tenantOf c in
+      let B = bookOf h T in
+      let K = the-kept in
+      let M = release-movable h T B K t (r .tenant) (r .holds) in
+      let order = release-in-order h T B K t (r .tenant) (r .holds) in
+      let occupies = release-occupies h T B K t (r .tenant) (r .holds) in
+      let q : t < length T = rw (K .entries) (r .tenant) in
+      let out = node-after-set T t 0 q in
+      let x = level h (nodeAt T t) in
+      let fewer = oneFewer (countsOf h T) x in
+      let one-fewer : (m : ℕ) → sizes h (layoutSet h fewer) m + one-if (eqb m x) ≡ sizes h (occupied T) m = λ m.
+      ap (λ (s : ℕ). s + one-if (eqb m x)) (layout-has-counts h fewer (fewer-counts-fit h T B K t (r .tenant) (r .holds)) m)
+      ∙ sym (count-one-more fewer x (level-in-fewer h T B K t (r .tenant) (r .holds)) m)
+      ∙ ap (λ (cs : List ℕ). getD cs m 0) (counts-before h T B K t (r .tenant) (r .holds))
+      ∙ sym (in-order-counts h T (K .height) (K .in-order) m) in
+      rw (r .outcome) (record {
+        settled = settled M T t out (node-beside-set T t 0) (released h T _ t) (λ u ne. refl) refl order occupies;
+        sized = λ m. ap (λ (A : Nodes). sizes h A m + one-if (eqb m x)) (fun-ext occupies) ∙ one-fewer m;
+        given-up = refl;
+        a-node = r .holds;
+        struck-out = moved-nothing M t out;
+      })
+
+abbrev levelAsked : Call → ℕ
+levelAsked (grant-level t l m) = l
+levelAsked (grant-pages t p m) = levelFor p
+levelAsked (release t m) = 0
+
+asks-level : (c : Call) (l : ℕ) → Asks c l → levelAsked c ≡ l
+asks-level c l by-level = refl
+asks-level c l by-pages = refl
+
+pub demand-2 : (h : ℕ) (T : List ℕ) (c : Call) → Demand2 h T c
+demand-2 h T c = record {
+  grant = λ l a e. granted-by l a e (case h T (sound-if-accepted h T c e) c);
+  release = λ r e. released-by r e (case h T (sound-if-accepted h T c e) c);
+}
+  where
+    refused-not : (n : ℕ) → step h T c .answer ≡ 0 → step h T c ≡ refused (suc n) T → ⊥
+    refused-not n e o = omega (arith, e, ap (λ (x : Outcome). x .answer) o)
+
+    granted-by : (l : ℕ) → Asks c l → step h T c .answer ≡ 0 → Case h T c → AfterGrant h T (tenantOf c) l (step h T c)
+    granted-by l a e (by-grant k g) =
+        subst (λ (j : ℕ). AfterGrant h T (tenantOf c) j (step h T c)) (sym (asks-level c k (g .asks)) ∙ asks-level c l a) (after-grant h T c e k g)
+    granted-by l a e (by-release r) = absurd (grants-do-not-release c l a (r .asks))
+    granted-by l a e (by-refusal n o) = absurd (refused-not n e o)
+
+    released-by : Releases c → step h T c .answer ≡ 0 → Case h T c → AfterRelease h T (tenantOf c) (step h T c)
+    released-by r e (by-grant k g) = absurd (grants-do-not-release c k (g .asks) r)
+    released-by r e (by-release d) = after-release h T c e d
+    released-by r e (by-refusal n o) = absurd (refused-not n e o)

@@ -1,0 +1,91 @@
+-- The three ways that a call on a sound table can go: refused, granted, released; with what its checks have shown.
+use mathlib.Core.Path.{_≡_, refl, sym, ap, _∙_}
+use mathlib.Core.Bool.{Bool, true, false, cond}
+use mathlib.Core.List.{List, [], _∷_, _++_}
+use Prim.Native.Nat.{ℕ, zero, suc, _+_, _^_, _≤_, _<_}
+use native.Mathlib.Omega.{arith}
+use borrow.Author.Tests.{ltb-false, eqb-false}
+use lib.Dec.{eqb, ltb}
+use Rattle.tree.specs.Node.{level}
+use Rattle.layout.specs.Layout.{pages}
+use Rattle.layout.specs.Set.{layoutSet}
+use Rattle.layout.specs.Change.{oneMore, oneFewer}
+use Rattle.table.specs.Table.{nodeAt, countsOf}
+use Rattle.calls.specs.Call.{Call, grant-level, grant-pages, release, tenantOf, levelFor}
+use Rattle.calls.specs.Step.{Outcome, refused, Check, check, first, validity, grant-holdings, holdings, checks, granted, released, accepted, unless, step}
+use Rattle.calls.specs.Demand.{Asks, by-level, by-pages, Releases, releases}
+use Rattle.calls.proofs.Checks.{Sound, first-of-sound, Numbered, validity-numbered, not-applied, rest-zero, valid-tenant, valid-level}
+
+pub record Granted (h : ℕ) (T : List ℕ) (c : Call) (l : ℕ) : Type 0 where
+  pub asks : Asks c l
+  pub tenant : tenantOf c < 4096
+  pub nothing : nodeAt T (tenantOf c) ≡ 0
+  pub in-height : l ≤ h
+  pub fits : pages (countsOf h T) + 2 ^ l ≤ 2 ^ h
+  pub outcome : step h T c ≡ granted h T (layoutSet h (oneMore (countsOf h T) l)) (tenantOf c) l
+
+pub record Released (h : ℕ) (T : List ℕ) (c : Call) : Type 0 where
+  pub asks : Releases c
+  pub tenant : tenantOf c < 4096
+  pub holds : 0 < nodeAt T (tenantOf c)
+  pub outcome : step h T c ≡ released h T (layoutSet h (oneFewer (countsOf h T) (level h (nodeAt T (tenantOf c))))) (tenantOf c)
+
+pub data Case (h : ℕ) (T : List ℕ) (c : Call) : Type 0 where
+  by-grant : (l : ℕ) → Granted h T c l → Case h T c
+  by-release : Released h T c → Case h T c
+  by-refusal : (n : ℕ) → step h T c ≡ refused (suc n) T → Case h T c
+
+pub both-zero : (xs ys : List Check) → Numbered xs → first (xs ++ ys) ≡ 0 → (first xs ≡ 0) × (first ys ≡ 0)
+both-zero [] ys n e = (refl, e)
+both-zero (c ∷ xs) ys n e = go (c .applies) e (both-zero xs ys (n .1))
+  where
+    go : (b : Bool) → cond b (c .number) (first (xs ++ ys)) ≡ 0 → (first (xs ++ ys) ≡ 0 → (first xs ≡ 0) × (first ys ≡ 0))
+        → (cond b (c .number) (first xs) ≡ 0) × (first ys ≡ 0)
+    go true z rest = absurd (omega (arith, n .0))
+    go false z rest = rest z
+
+module _ (h : ℕ) (T : List ℕ) (s : Sound h T) where
+  -- what checks 8 and 10 have shown
+  holds-nothing : (t l : ℕ) → first (grant-holdings h T t l) ≡ 0 → nodeAt T t ≡ 0
+  holds-nothing t l e = omega (arith, ltb-false 0 (nodeAt T t) (not-applied 8 (ltb 0 (nodeAt T t)) (check 10 (ltb (2 ^ h) (pages (countsOf h T) + 2 ^ l)) ∷ []) (omega arith) e))
+
+  pages-fit : (t l : ℕ) → first (grant-holdings h T t l) ≡ 0 → pages (countsOf h T) + 2 ^ l ≤ 2 ^ h
+  pages-fit t l e =
+      let r = rest-zero 8 (ltb 0 (nodeAt T t)) (check 10 (ltb (2 ^ h) (pages (countsOf h T) + 2 ^ l)) ∷ []) (omega arith) e in
+      ltb-false (2 ^ h) (pages (countsOf h T) + 2 ^ l) (not-applied 10 (ltb (2 ^ h) (pages (countsOf h T) + 2 ^ l)) [] (omega arith) r)
+
+  grant-case : (c : Call) (l : ℕ) → Asks c l → first (validity h c) ≡ 0 → first (grant-holdings h T (tenantOf c) l) ≡ 0
+      → step h T c ≡ granted h T (layoutSet h (oneMore (countsOf h T) l)) (tenantOf c) l → Case h T c
+  grant-case c l a v e o =
+      by-grant l (record {
+        asks = a;
+        tenant = valid-tenant h c v;
+        nothing = holds-nothing (tenantOf c) l e;
+        in-height = valid-level h c l a v;
+        fits = pages-fit (tenantOf c) l e;
+        outcome = o;
+      })
+
+  accepted-case : (c : Call) → first (validity h c) ≡ 0 → first (holdings h T c) ≡ 0 → step h T c ≡ accepted h T c → Case h T c
+  accepted-case (grant-level t l m) v e o = grant-case (grant-level t l m) l by-level v e o
+  accepted-case (grant-pages t p m) v e o = grant-case (grant-pages t p m) (levelFor p) by-pages v e o
+  accepted-case (release t m) v e o =
+      by-release (record {
+        asks = releases;
+        tenant = valid-tenant h (release t m) v;
+        holds = positive (nodeAt T t) (eqb-false (nodeAt T t) 0 (not-applied 9 (eqb (nodeAt T t) 0) [] (omega arith) e));
+        outcome = o;
+      })
+    where
+      positive : (n : ℕ) → ¬ (n ≡ 0) → 0 < n
+      positive n ne = omega arith
+
+  pub case : (c : Call) → Case h T c
+  unfolding step
+  case c = go (first (checks h T c)) refl
+    where
+      go : (n : ℕ) → first (checks h T c) ≡ n → Case h T c
+      go zero e =
+          let z = both-zero (validity h c) (holdings h T c) (validity-numbered h c) (sym (first-of-sound h T c s) ∙ e) in
+          accepted-case c (z .0) (z .1) (ap (λ (n : ℕ). unless n T (accepted h T c)) e)
+      go (suc n) e = by-refusal n (ap (λ (m : ℕ). unless m T (accepted h T c)) e)

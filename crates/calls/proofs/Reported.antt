@@ -1,0 +1,104 @@
+-- A call reports as many moves as tenants other than its own have a node before and a different one after: at most three on a grant, four on a release.
+use mathlib.Core.Path.{_≡_, refl, sym, ap, ap₂, _∙_, fun-ext}
+use mathlib.Core.Bool.{Bool, true, false, not, _&&_, false≢true}
+use mathlib.Core.List.{List, []}
+use Prim.Native.Nat.{ℕ, zero, suc, _+_, _^_, _≤_, _<_}
+use native.Mathlib.Omega.{arith}
+use native.Mathlib.Decide.{ℕ-discrete}
+use native.Mathlib.Nat.{eq-zero-or-pos}
+use mathlib.Core.Logic.{_⊎_, inl, inr}
+use borrow.Author.Tests.{eq-eqb, ne-eqb, lt-ltb}
+use lib.Dec.{eqb, ltb}
+use lib.ListN.{length, set, length-set}
+use Rattle.tree.specs.Held.{Nodes, count}
+use Rattle.tree.proofs.Sum.{count-of-none}
+use Rattle.tree.proofs.Count.{passes-first, fails-second, passes-only-first}
+use Rattle.layout.specs.Set.{layoutSet}
+use Rattle.layout.specs.Change.{oneMore, mostByGrant, mostByRelease}
+use Rattle.layout.specs.Leaving.{leaving}
+use Rattle.layout.proofs.Leaving.{count-mono, grant-leaves-at-most-3, release-leaves-at-most-4}
+use Rattle.table.specs.Table.{nodeAt, occupied, countsOf, InOrder}
+use Rattle.table.specs.Pairing.{moved, movesOf}
+use Rattle.table.proofs.Order.{in-order-is-layout}
+use Rattle.table.proofs.Occupied.{tenant-of, occupied-above-zero, occupied-by}
+use Rattle.table.proofs.Moved.{Movable, moved-holds}
+use Rattle.table.proofs.Moves.{changes, moves-counted, moves-by-tenant}
+use Rattle.calls.specs.Demand.{changed}
+use Rattle.calls.proofs.Struck.{node-after-set, node-beside-set}
+use Rattle.calls.proofs.Kept.{count-cong}
+
+-- The shared case: T₁ is T, or T with t's entry struck out; T′ is T₁ moved into N, but for t's entry.
+module _ {h : ℕ} {N : Nodes} {T₁ : List ℕ} (M : Movable h N T₁) (T T′ : List ℕ) (t : ℕ) (entries : length T₁ ≡ 4096)
+    (out : nodeAt T₁ t ≡ 0) (before : (u : ℕ) → ¬ (u ≡ t) → nodeAt T₁ u ≡ nodeAt T u)
+    (after : (u : ℕ) → ¬ (u ≡ t) → nodeAt T′ u ≡ nodeAt (moved h N T₁) u) where
+  abbrev differs : ℕ → Bool
+  differs u = ltb 0 (nodeAt T u) && (ltb 0 (nodeAt T′ u) && not (eqb (nodeAt T′ u) (nodeAt T u)))
+
+  same-test : (u : ℕ) → changes h N T₁ u ≡ (not (eqb u t) && differs u)
+  same-test u = go (ℕ-discrete u t)
+    where
+      go : Dec (u ≡ t) → changes h N T₁ u ≡ (not (eqb u t) && differs u)
+      go (yes e) = rw (e, eq-eqb t t refl, out)
+      go (no ne) = rw (ne-eqb u t ne, after u ne, ← (before u ne)) (by-node (eq-zero-or-pos (nodeAt T₁ u)))
+        where
+          by-node : (nodeAt T₁ u ≡ 0) ⊎ (0 < nodeAt T₁ u)
+              → changes h N T₁ u ≡ (ltb 0 (nodeAt T₁ u) && (ltb 0 (nodeAt (moved h N T₁) u) && not (eqb (nodeAt (moved h N T₁) u) (nodeAt T₁ u))))
+          by-node (inl z) = rw z
+          by-node (inr p) = rw (lt-ltb 0 (nodeAt (moved h N T₁) u) (moved-holds M u p))
+
+  pub moves-are-changes : length (movesOf h N T₁) ≡ changed t T T′
+  unfolding changed
+  moves-are-changes = moves-by-tenant M ∙ rw entries (count-cong 4096 _ _ (λ u q. same-test u))
+
+never : (b x : Bool) → ¬ ((b && (x && (x && false))) ≡ true)
+never true true e = false≢true e
+never true false e = false≢true e
+never false x e = false≢true e
+
+-- a refused call changes nobody
+pub nothing-changes : (t : ℕ) (T : List ℕ) → changed t T T ≡ 0
+unfolding changed
+nothing-changes t T = count-of-none 4096 _ (λ u q e. same (nodeAt T u) (not (eqb u t)) e)
+  where
+    same : (n : ℕ) (b : Bool) → ¬ ((b && (ltb 0 n && (ltb 0 n && not (eqb n n)))) ≡ true)
+    same n b e = never b (ltb 0 n) (rw (eq-eqb n n refl) at e)
+
+-- ---- the bounds
+
+struck-was-occupied : (T : List ℕ) (t n : ℕ) → occupied (set T t 0) n ≡ true → occupied T n ≡ true
+struck-was-occupied T t n p = go (tenant-of (set T t 0) n p)
+  where
+    above : 0 < n
+    above = occupied-above-zero (set T t 0) n p
+
+    go : (u : ℕ) × (u < length (set T t 0)) × (nodeAt (set T t 0) u ≡ n) → occupied T n ≡ true
+    go (u, in-table, at-n) = by-tenant (ℕ-discrete u t)
+      where
+        by-tenant : Dec (u ≡ t) → occupied T n ≡ true
+        by-tenant (yes e) =
+            absurd (omega (arith, above, at-n, ap (nodeAt (set T t 0)) e, node-after-set T t 0 (rw (e, length-set T t 0) at in-table)))
+        by-tenant (no ne) =
+            let was : nodeAt T u ≡ n = sym (node-beside-set T t 0 u ne) ∙ at-n in
+            rw was at (occupied-by T u (rw was above))
+
+pub grant-moves-few : (h : ℕ) (T : List ℕ) (l : ℕ) → h ≤ 12 → InOrder h T → l < length (countsOf h T)
+    → Movable h (layoutSet h (oneMore (countsOf h T) l)) T → length (movesOf h (layoutSet h (oneMore (countsOf h T) l)) T) ≤ mostByGrant
+unfolding leaving
+grant-moves-few h T l h≤12 o q M =
+    rw (moves-counted M, fun-ext (in-order-is-layout h T h≤12 o)) (grant-leaves-at-most-3 h (countsOf h T) l q)
+
+pub release-moves-few : (h : ℕ) (T : List ℕ) (t l : ℕ) (cs : List ℕ) → h ≤ 12 → InOrder h T → l < length cs → oneMore cs l ≡ countsOf h T
+    → Movable h (layoutSet h cs) (set T t 0) → length (movesOf h (layoutSet h cs) (set T t 0)) ≤ mostByRelease
+unfolding leaving
+release-moves-few h T t l cs h≤12 o q e M =
+    let N = layoutSet h cs in
+    let fewer = count-mono (2 ^ suc h) (λ n. occupied (set T t 0) n && not (N n)) (λ n. layoutSet h (oneMore cs l) n && not (N n)) was in
+    omega (arith, moves-counted M, fewer, release-leaves-at-most-4 h cs l q)
+  where
+    was : (n : ℕ) → (occupied (set T t 0) n && not (layoutSet h cs n)) ≡ true → (layoutSet h (oneMore cs l) n && not (layoutSet h cs n)) ≡ true
+    was n p =
+        let held-after = passes-first (occupied (set T t 0) n) (layoutSet h cs n) p in
+        let held-before : layoutSet h (oneMore cs l) n ≡ true =
+        ap (λ (ds : List ℕ). layoutSet h ds n) e ∙ sym (in-order-is-layout h T h≤12 o n) ∙ struck-was-occupied T t n held-after in
+        passes-only-first (layoutSet h (oneMore cs l) n) (layoutSet h cs n) held-before
+        (fails-second (occupied (set T t 0) n) (layoutSet h cs n) p)

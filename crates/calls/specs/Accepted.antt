@@ -1,0 +1,66 @@
+-- What an accepted grant or release does, for every height and table. Demand 2, and document 01's "Calls".
+use mathlib.Core.Path.{_≡_}
+use mathlib.Core.Bool.{true}
+use mathlib.Core.List.{List}
+use Prim.Native.Nat.{ℕ, suc, _+_, _<_}
+use lib.Dec.{eqb}
+use lib.ListN.{length, getD}
+use Rattle.tree.specs.Node.{level}
+use Rattle.tree.specs.Held.{Within, Legal, Safe, sizes, one-if}
+use Rattle.table.specs.Table.{nodeAt, occupied}
+use Rattle.table.specs.declared.Move.{Move}
+use Rattle.calls.specs.Call.{Call, tenantOf}
+use Rattle.calls.specs.Step.{Outcome, step}
+use Rattle.calls.specs.Demand.{Asks, Releases}
+
+-- m takes a tenant other than t from its node in T to a different one, its node in T′
+pub record Shifted (t : ℕ) (T T′ : List ℕ) (m : Move) : Type 0 where
+  pub other : ¬ (m .tenant ≡ t)
+  pub old : m .from ≡ nodeAt T (m .tenant)
+  pub new : m .to ≡ nodeAt T′ (m .tenant)
+  pub had-one : 0 < m .from
+  pub has-one : 0 < m .to
+  pub differ : ¬ (m .from ≡ m .to)
+
+abbrev pub nobody : Move
+nobody = record { tenant = 0; from = 0; to = 0 }
+
+-- what both kinds of call do to the tenants but their own, t
+pub record Settled (h t : ℕ) (T : List ℕ) (o : Outcome) : Type 0 where
+  -- the places occupied are a legal and safe set
+  pub within : Within h (occupied (o .table))
+  pub legal : Legal (occupied (o .table))
+  pub safe : Safe h (occupied (o .table))
+  -- a tenant whose node is in the new set stays
+  pub stays : (u : ℕ) → ¬ (u ≡ t) → 0 < nodeAt T u → occupied (o .table) (nodeAt T u) ≡ true → nodeAt (o .table) u ≡ nodeAt T u
+  -- the others keep their level, and who has nothing gets nothing
+  pub same-level : (u : ℕ) → ¬ (u ≡ t) → 0 < nodeAt T u → level h (nodeAt (o .table) u) ≡ level h (nodeAt T u)
+  pub still-holds : (u : ℕ) → ¬ (u ≡ t) → 0 < nodeAt T u → 0 < nodeAt (o .table) u
+  pub still-nothing : (u : ℕ) → ¬ (u ≡ t) → nodeAt T u ≡ 0 → nodeAt (o .table) u ≡ 0
+  -- the moves are exactly those tenants whose node differs, each once
+  pub listed : (i : ℕ) → i < length (o .moves) → Shifted t T (o .table) (getD (o .moves) i nobody)
+  pub all-listed : (u : ℕ) → ¬ (u ≡ t) → 0 < nodeAt T u → ¬ (nodeAt (o .table) u ≡ nodeAt T u)
+      → (i : ℕ) × (i < length (o .moves)) × (getD (o .moves) i nobody .tenant ≡ u)
+  pub once : (i j : ℕ) → i < length (o .moves) → j < length (o .moves)
+      → getD (o .moves) i nobody .tenant ≡ getD (o .moves) j nobody .tenant → i ≡ j
+
+-- a grant at level l: one more block there, and the newcomer has it and the answer names it
+pub record AfterGrant (h : ℕ) (T : List ℕ) (t l : ℕ) (o : Outcome) : Type 0 where
+  pub settled : Settled h t T o
+  pub sized : (m : ℕ) → sizes h (occupied (o .table)) m ≡ sizes h (occupied T) m + one-if (eqb m l)
+  pub had-nothing : nodeAt T t ≡ 0
+  pub newcomer : nodeAt (o .table) t ≡ o .node
+  pub on-level : level h (o .node) ≡ l
+  pub a-node : 0 < o .node
+
+-- a release: one block fewer at the level of the node given up, which the answer names
+pub record AfterRelease (h : ℕ) (T : List ℕ) (t : ℕ) (o : Outcome) : Type 0 where
+  pub settled : Settled h t T o
+  pub sized : (m : ℕ) → sizes h (occupied (o .table)) m + one-if (eqb m (level h (o .node))) ≡ sizes h (occupied T) m
+  pub given-up : o .node ≡ nodeAt T t
+  pub a-node : 0 < o .node
+  pub struck-out : nodeAt (o .table) t ≡ 0
+
+pub record Demand2 (h : ℕ) (T : List ℕ) (c : Call) : Type 0 where
+  pub grant : (l : ℕ) → Asks c l → step h T c .answer ≡ 0 → AfterGrant h T (tenantOf c) l (step h T c)
+  pub release : Releases c → step h T c .answer ≡ 0 → AfterRelease h T (tenantOf c) (step h T c)
