@@ -1,19 +1,22 @@
 -- The least index that is in one row and not in another. Where the two runs are near, such an index is one of four, so four tries find it.
 use mathlib.Core.Path.{_≡_, refl, sym, ap, _∙_}
-use mathlib.Core.Bool.{Bool, true, false, not, _&&_, cond, true≢false, false≢true, and-true, and-false, and-eq-true-iff}
+use mathlib.Core.Bool.{Bool, true, false, not, _&&_, cond, true≢false, false≢true, and-eq-true-iff}
 use mathlib.Core.List.{List, [], _∷_}
 use Prim.Native.Nat.{ℕ, zero, suc, _+_, _-_, _≤_, _<_}
 use native.Mathlib.Omega.{arith}
 use native.Mathlib.Decide.{ℕ-discrete, decLt}
-use borrow.Author.Tests.{ltb-true, ltb-false, leb-true, lt-ltb, le-leb, eq-eqb, ne-eqb, not-true}
+use borrow.Author.Tests.{ltb-true, ltb-false, leb-true, le-leb, ne-eqb, not-true}
 use lib.Dec.{eqb, ltb, leb}
-use lib.ListN.{getD}
+use lib.ListN.{length, getD}
 use Rattle.tree.specs.Held.{both}
 use Rattle.layout.specs.Layout.{either}
 use Rattle.layout.specs.Runs.{Near}
+use Rattle.layout.specs.Rows.{no-index}
 use Rattle.table.specs.Pairing.{upFrom, keep}
-use Rattle.table.specs.Plan.{no-index, rowHolds, lastOf, onlyIn, onlyFrom, leastOnly, betterOf}
+use Rattle.table.specs.Plan.{rowHolds, lastOf, onlyIn, onlyFrom, leastOnly, betterOf}
 use Rattle.table.specs.declared.plan.Row.{Row}
+use Rattle.table.proofs.Distinct.{at-place}
+use Rattle.table.proofs.Keep.{of-upFrom, of-keep}
 
 -- ---- the first number that passes a test
 
@@ -54,29 +57,6 @@ kept-by p a (suc n) d e = by-test (p a) refl (kept-by p (suc a) n d (omega arith
         first-kept a (omega arith) (omega arith) f (ap (λ (m : ℕ). a ∷ keep p (upFrom (suc a) m)) left)
     by-test false f rest = later rest
 
--- ---- what a row holds
-
-module _ (w : Row) (i : ℕ) where
-  pub hole-not-held : i ≡ w .hole → rowHolds w i ≡ false
-  unfolding rowHolds
-  hole-not-held e = rw (eq-eqb i (w .hole) e, and-false)
-
-  pub run-held : ¬ (i ≡ w .hole) → w .start ≤ i → i < w .start + w .run → rowHolds w i ≡ true
-  unfolding rowHolds
-  run-held hole q r = rw (ne-eqb i (w .hole) hole, le-leb (w .start) i q, lt-ltb i (w .start + w .run) r)
-
-  -- outside the run only the lone block is held
-  pub lone-held : ¬ (i ≡ w .hole) → ¬ ((w .start ≤ i) × (i < w .start + w .run)) → rowHolds w i ≡ eqb i (w .lone)
-  unfolding rowHolds
-  lone-held hole out =
-      rw (ne-eqb i (w .hole) hole, and-true) (by-tests (leb (w .start) i) refl (ltb i (w .start + w .run)) refl)
-    where
-      by-tests : (b : Bool) → leb (w .start) i ≡ b → (t : Bool) → ltb i (w .start + w .run) ≡ t
-          → either (both b t) (eqb i (w .lone)) ≡ eqb i (w .lone)
-      by-tests true f true g = absurd (out (leb-true (w .start) i f, ltb-true i (w .start + w .run) g))
-      by-tests true f false g = refl
-      by-tests false f t g = refl
-
 -- ---- an index that is in one row and not in a near one
 
 data OneOfFour (v w : Row) (i : ℕ) : Type 0 where
@@ -88,7 +68,7 @@ data OneOfFour (v w : Row) (i : ℕ) : Type 0 where
 -- in the row and not its lone block: in the run
 in-run : (w : Row) (i : ℕ) → rowHolds w i ≡ true → ¬ (i ≡ w .lone) → (w .start ≤ i) × (i < w .start + w .run)
 unfolding rowHolds
-in-run w i e lone = by-tests (leb (w .start) i) refl (ltb i (w .start + w .run)) refl (rw (ne-eqb i (w .lone) lone) at e)
+in-run w i e lone = by-tests (leb (w .start) i) refl (ltb i (w .start + w .run)) refl (rw (ne-eqb (w .lone) i (λ f. lone (sym f))) at e)
   where
     by-tests : (b : Bool) → leb (w .start) i ≡ b → (t : Bool) → ltb i (w .start + w .run) ≡ t
         → (either (both b t) false && not (eqb i (w .hole))) ≡ true → (w .start ≤ i) × (i < w .start + w .run)
@@ -101,7 +81,7 @@ not-in-run : (w : Row) (i : ℕ) → rowHolds w i ≡ false → ¬ (i ≡ w .hol
 unfolding rowHolds
 not-in-run w i e hole q = by-test (ltb i (w .start + w .run)) refl (rw (ne-eqb i (w .hole) hole, le-leb (w .start) i q) at e)
   where
-    by-test : (t : Bool) → ltb i (w .start + w .run) ≡ t → (either t (eqb i (w .lone)) && true) ≡ false → w .start + w .run ≤ i
+    by-test : (t : Bool) → ltb i (w .start + w .run) ≡ t → (either t (eqb (w .lone) i) && true) ≡ false → w .start + w .run ≤ i
     by-test true g e′ = absurd (true≢false e′)
     by-test false g e′ = ltb-false i (w .start + w .run) g
 
@@ -226,12 +206,22 @@ module _ (v w : Row) where
   unfolding onlyFrom
   only-none = refl
 
-  pub only-cons : (i : ℕ) → i < no-index → onlyIn v w i ≡ true → onlyFrom v w i ≡ i ∷ onlyFrom v w (suc i)
+  pub only-step : (i : ℕ) → i < no-index → onlyFrom v w i ≡ cond (onlyIn v w i) (i ∷ onlyFrom v w (suc i)) (onlyFrom v w (suc i))
   unfolding onlyFrom
-  only-cons i q e = rw (left, e)
+  only-step i q = rw left
     where
       left : no-index - i ≡ suc (no-index - suc i)
       left = omega arith
+
+  pub only-cons : (i : ℕ) → i < no-index → onlyIn v w i ≡ true → onlyFrom v w i ≡ i ∷ onlyFrom v w (suc i)
+  only-cons i q e = only-step i q ∙ ap (λ t. cond t (i ∷ onlyFrom v w (suc i)) (onlyFrom v w (suc i))) e
+
+  pub only-empty : (a : ℕ) → a ≤ no-index → ((i : ℕ) → a ≤ i → i < no-index → onlyIn v w i ≡ false) → onlyFrom v w a ≡ []
+  only-empty a fits none = by-kept (only-by a fits)
+    where
+      by-kept : Kept (onlyIn v w) a no-index (onlyFrom v w a) → onlyFrom v w a ≡ []
+      by-kept (none-kept e) = e
+      by-kept (first-kept i q r f e) = absurd (false≢true (sym (none i q r) ∙ f))
 
   -- those from a on are those from the least on
   pub only-from-least : (a : ℕ) → a ≤ no-index → onlyFrom v w (leastOnly v w a) ≡ onlyFrom v w a
@@ -248,3 +238,12 @@ module _ (v w : Row) where
         | yes q ↦ rw (only-cons i q (s .passes q))
         | no q ↦ let e : i ≡ no-index = omega arith in rw (e, only-none)
       ]
+
+  -- each of them is an index that passes
+  pub only-listed : (a : ℕ) → a ≤ no-index → (k d : ℕ) → k < length (onlyFrom v w a)
+      → (getD (onlyFrom v w a) k d < no-index) × (onlyIn v w (getD (onlyFrom v w a) k d) ≡ true)
+  unfolding onlyFrom
+  only-listed a fits k d q =
+      let xs = upFrom a (no-index - a) in
+      let listed = of-keep (onlyIn v w) xs (getD (keep (onlyIn v w) xs) k d) (at-place d (keep (onlyIn v w) xs) k q) in
+      (omega (arith, of-upFrom a (no-index - a) (getD (keep (onlyIn v w) xs) k d) (listed .0)), listed .1)

@@ -11,3 +11,5 @@ pub mod Moves
 pub mod Written
 pub mod Least
 pub mod Shifting
+pub mod RowNodes
+pub mod Planning

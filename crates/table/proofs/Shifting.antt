@@ -8,8 +8,9 @@ use native.Mathlib.Numerals.{add-one}
 use native.Mathlib.Omega.{arith}
 use lib.ListN.{length, getD}
 use Rattle.layout.specs.Runs.{Near}
+use Rattle.layout.specs.Rows.{no-index}
 use Rattle.table.specs.Pairing.{Shift, pair}
-use Rattle.table.specs.Plan.{no-index, rowHolds, onlyIn, onlyFrom, leastOnly, movesIn, nodesAt, levelShifts, spareIndex, moveOf}
+use Rattle.table.specs.Plan.{rowHolds, onlyIn, onlyFrom, leastOnly, movesIn, nodesAt, levelShifts, spareIndex, moveOf}
 use Rattle.table.specs.Plan.{LevelShifted}
 use Rattle.table.specs.declared.plan.Row.{Row}
 use Rattle.table.specs.declared.plan.Plan.{Plan}

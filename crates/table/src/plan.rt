@@ -5,12 +5,13 @@ ghost use mathlib.Core.List.{[], _∷_, _++_};
 ghost use Prim.Native.Nat.{_+_, _^_, _≤_, _<_};
 ghost use lib.ListN.{length, getD};
 ghost use Rattle.layout.specs.Runs.{Near};
+ghost use Rattle.layout.specs.Rows.{no-index};
 ghost use Rattle.table.specs.Plan.{rowHolds, lastOf, onlyIn, betterOf, leastOnly, movesIn};
 ghost use Rattle.table.specs.Plan.{moveOf, levelShifts, Shiftable, LevelShifted};
+ghost use Rattle.table.specs.Plan.{rowOf, indexOn, nodeOn, shiftsAt, Plannable, LevelPlanned, AllPlanned};
 use crate::Move;
-
-// What stands for an index where there is none.
-pub const NONE: u16 = 65_535;
+use layout::Layout;
+use layout::NONE;
 
 // The blocks of one level by index: the `run` indices from `start` on, and `lone`, but not `hole`. NONE for no lone block, and for no hole.
 pub struct Row {
@@ -28,17 +29,12 @@ impl Row {
         if index == self.hole {
             return false;
         }
-        if self.start <= index {
-            if index - self.start < self.run {
-                return true;
-            }
-        }
-        index == self.lone
+        layout::in_row(self.start, self.run, self.lone, index)
     }
 
     // The last index of the run; its start where the run is empty.
     fn last(self) -> u16
-        requires { ⌜ self .start + self .run < 2 ^ 16 ⌝ }
+        requires { ⌜ self .start + self .run ≤ 2 ^ 16 ⌝ }
         ensures { λ r. ⌜ r ≡ lastOf self ⌝ }
     {
         if self.run == 0 {
@@ -70,7 +66,7 @@ fn better(old: Row, new: Row, from: u16, candidate: u16, best: u16) -> u16
 // The least index from `from` on that is in `old` and not in `new`; NONE if there is none.
 pub fn least(old: Row, new: Row, from: u16) -> u16
     requires near { ⌜ Near (old .start) (old .run) (new .start) (new .run) ⌝ }
-    requires fits { ⌜ old .start + old .run < 2 ^ 16 ⌝ }
+    requires fits { ⌜ old .start + old .run ≤ 2 ^ 16 ⌝ }
     ensures { λ r. ⌜ r ≡ leastOnly old new from ⌝ }
 {
     let first = better(old, new, from, old.start, NONE);
@@ -147,4 +143,105 @@ pub fn shift_level(plan: Plan, base: u16, old: Row, new: Row, owners: &[u16; 819
         j = least(new, old, j + 1);
     }
     Shifted { plan, spare: j }
+}
+
+// The row of one level of a layout, with a hole.
+fn row_of(rows: Layout, level: u16, hole: u16) -> Row
+    requires { ⌜ level ≤ 12 ⌝ }
+    ensures { λ r. ⌜ r ≡ rowOf rows level hole ⌝ }
+{
+    let l = level as usize;
+    let starts = rows.start;
+    let runs = rows.run;
+    let lones = rows.lone;
+    Row {
+        start: starts[l],
+        run: runs[l],
+        lone: lones[l],
+        hole,
+    }
+}
+
+// The index of a node on the level whose first node is `base`; NONE for a node before that.
+fn index_on(base: u16, node: u16) -> u16
+    ensures { λ r. ⌜ r ≡ indexOn base node ⌝ }
+{
+    if node < base {
+        return NONE;
+    }
+    node - base
+}
+
+// The node with an index on the level whose first node is `base`; 0 for NONE.
+fn node_on(base: u16, index: u16) -> u16
+    requires { ⌜ (index < no-index → base + index < 2 ^ 16) ⌝ }
+    ensures { λ r. ⌜ r ≡ nodeOn base index ⌝ }
+{
+    if index == NONE {
+        return 0;
+    }
+    base + index
+}
+
+// Moves, and the newcomer's node, or 0.
+pub struct Planned {
+    pub plan: Plan,
+    pub node: u16,
+}
+
+// What was planned for the levels below, with one level more: its moves, and the newcomer's node if it is the level wanted.
+fn plan_level(
+    below: Planned,
+    height: u16,
+    level: u16,
+    old: Layout,
+    new: Layout,
+    gone: u16,
+    wanted: u16,
+    owners: &[u16; 8192],
+) -> Planned
+    requires rows { ⌜ Plannable height old new gone (now owners) ⌝ }
+    requires level { ⌜ level ≤ height ⌝ }
+    requires room { ⌜ below .plan .n + length (shiftsAt height old new gone level) ≤ 4 ⌝ }
+    ensures { λ r. ⌜ LevelPlanned height old new gone level wanted (now (owners .entry)) below r ⌝ }
+{
+    let base = layout::power(height - level);
+    let plan = below.plan;
+    let from = row_of(old, level, index_on(base, gone));
+    let to = row_of(new, level, NONE);
+    let s = shift_level(plan, base, from, to, owners);
+    let plan = s.plan;
+    if level != wanted {
+        return Planned {
+            plan,
+            node: below.node,
+        };
+    }
+    let node = node_on(base, s.spare);
+    Planned { plan, node }
+}
+
+// The moves that bring everybody from the old layout, without the node `gone` (0 for none), into the new one, by level from 0 up and left to
+// right; and the place on the level wanted that they leave over, 0 if there is none. `owners` has each node's tenant and one.
+pub fn plan_moves(
+    height: u16,
+    old: Layout,
+    new: Layout,
+    gone: u16,
+    wanted: u16,
+    owners: &[u16; 8192],
+) -> Planned
+    requires { ⌜ Plannable height old new gone (now owners) ⌝ }
+    ensures { λ r. ⌜ AllPlanned height old new gone wanted (now (owners .entry)) r ⌝ }
+{
+    let mut sofar = Planned {
+        plan: Plan::none(),
+        node: 0,
+    };
+    let mut level: u16 = 0;
+    while level <= height {
+        sofar = plan_level(sofar, height, level, old, new, gone, wanted, owners);
+        level += 1;
+    }
+    sofar
 }
