@@ -9,3 +9,8 @@ pub mod Moved
 pub mod Newcomer
 pub mod Moves
 pub mod Written
+pub mod Used
+pub mod Tabulate
+pub mod Once
+pub mod Owners
+pub mod Levels
