@@ -1,6 +1,7 @@
 //! Everything that document 01 gives as an example, an edge or a mistake.
 
 use oracle::definitions::{is_free, is_legal, Counts, Node, Tree};
+use oracle::generate::journal_of;
 use oracle::journal::{self, Reading, Record, LONGEST};
 use oracle::lifting::layout;
 use oracle::listing::list;
@@ -327,18 +328,6 @@ fn reader_refusals_in_their_order() {
     assert_eq!(journal::read(&[1, 1, 1], 1), refused(Refusal::OpenAgain, 1));
 }
 
-/// A journal of an exact length: an opening, releases of nobody, and grants to fill up.
-fn journal_of(length: usize) -> Vec<u8> {
-    let mut journal = vec![1, 2];
-    while !(length - journal.len()).is_multiple_of(3) {
-        journal.extend([2, 0, 0, 9]);
-    }
-    while journal.len() < length {
-        journal.extend([4, 1, 0]);
-    }
-    journal
-}
-
 #[test]
 fn the_longest_journal() {
     let longest = journal_of(LONGEST);
@@ -382,7 +371,7 @@ fn every_record_fits_exactly_or_changes_nothing() {
     assert_eq!(records[2].bytes(), [3, 0x34, 0x12, 0xcd, 0xab]);
 }
 
-// The layouts and rules that look tidy and are wrong. Each is built here as somebody might, and must come out different.
+// Layouts and rules that look tidy and are wrong. Each is built here as somebody might, and must come out different.
 
 /// The leftmost free places, level by level in some order, with no settling.
 fn leftmost(tree: Tree, counts: &Counts, levels: impl Iterator<Item = u32>) -> Vec<Node> {
@@ -450,4 +439,16 @@ fn the_newcomer_is_not_paired_by_tenant_number() {
     let outcome = call(2, &held, grant(0, 0));
     assert_eq!((outcome.answer, outcome.node), (0, 5));
     assert_eq!(outcome.moves, [step(1, 6, 4), step(2, 2, 3)]);
+}
+
+#[test]
+fn movers_are_not_paired_by_tenant_number() {
+    // Two movers of one level, of which the left one has the higher number.
+    let mut held = table(&[]);
+    for (tenant, node) in [(0, 8), (1, 9), (7, 10), (3, 11), (4, 6)] {
+        held[tenant] = node;
+    }
+    let outcome = call(3, &held, release(0));
+    assert_eq!((outcome.answer, outcome.node), (0, 8));
+    assert_eq!(outcome.moves, [step(7, 10, 8), step(3, 11, 12), step(4, 6, 5)]);
 }
