@@ -1,4 +1,4 @@
-//! A second planner for the page reserve.
+//! A second planner for the page reserve, and the driver that holds another planner against it.
 //!
 //! Everything here is decided from the papers alone and by the slowest road that is still bearable, because its only
 //! use is to be believed when it disagrees with the planner that ships:
@@ -9,8 +9,8 @@
 //! - [`planner`] has the calls with their refusals, pairing and moves, [`page_map`] the map, [`journal`] and
 //!   [`listing`] the journal;
 //! - [`book`] and [`audit`] state what every planner owes its callers without planning anything themselves;
-//! - [`subject`] is the door through which a planner under test is reached, [`generate`] makes up what to ask it from
-//!   the seeds of [`random`], and [`shrink`] shortens what fails.
+//! - [`subject`] is the door through which a planner under test is reached, and [`compare`] knocks on it, with what
+//!   [`generate`] makes up from the seeds of [`random`], and with [`shrink`] to shorten what fails.
 
 #![forbid(unsafe_code)]
 
@@ -25,6 +25,7 @@ macro_rules! ensure {
 
 pub mod audit;
 pub mod book;
+pub mod compare;
 pub mod definitions;
 pub mod generate;
 pub mod journal;
