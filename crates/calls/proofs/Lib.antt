@@ -11,3 +11,4 @@ pub mod Reported
 pub mod Box
 pub mod Demand
 pub mod Accepted
+pub mod Named
