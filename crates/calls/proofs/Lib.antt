@@ -12,3 +12,4 @@ pub mod Box
 pub mod Demand
 pub mod Accepted
 pub mod Named
+pub mod Opening

@@ -4,7 +4,7 @@ ghost use mathlib.Core.Bool.{not};
 ghost use mathlib.Core.List.{[], _∷_};
 ghost use lib.Dec.{eqb, ltb};
 ghost use Rattle.calls.specs.Call.{levelFor};
-ghost use Rattle.calls.specs.Step.{first, check};
+ghost use Rattle.calls.specs.Step.{first, check, list-checks};
 
 // The level that a number of pages asks for: the smallest whose block has that many.
 pub fn level_for(pages: u16) -> u16
@@ -16,9 +16,9 @@ pub fn level_for(pages: u16) -> u16
     tree::depth(pages - 1) + 1
 }
 
-// The number of the first of refusals 1 to 4 that applies, or 0.
-pub fn refusal(height: u16, length: usize, entries: usize, tenant: u16) -> u16
-    ensures { λ r. ⌜ r ≡ first (check 1 (ltb 12 height) ∷ check 2 (not (eqb length 4096)) ∷ check 3 (ltb entries 4) ∷ check 4 (ltb 4095 tenant) ∷ []) ⌝ }
+// The number of the first of refusals 1 and 2 that applies, or 0.
+pub fn reserve_refusal(height: u16, length: usize) -> u16
+    ensures { λ r. ⌜ r ≡ first (check 1 (ltb 12 height) ∷ check 2 (not (eqb length 4096)) ∷ []) ⌝ }
 {
     if 12 < height {
         return 1;
@@ -26,6 +26,13 @@ pub fn refusal(height: u16, length: usize, entries: usize, tenant: u16) -> u16
     if length != 4096 {
         return 2;
     }
+    0
+}
+
+// The number of the first of refusals 3 and 4 that applies, or 0.
+pub fn list_refusal(entries: usize, tenant: u16) -> u16
+    ensures { λ r. ⌜ r ≡ first (list-checks tenant entries) ⌝ }
+{
     if entries < 4 {
         return 3;
     }
