@@ -15,3 +15,5 @@ pub mod Pages
 pub mod Leaving
 pub mod Theorems
 pub mod Starred
+pub mod Bounds
+pub mod Counting

@@ -4,3 +4,4 @@ pub mod Runs
 pub mod Set
 pub mod Leaving
 pub mod Starred
+pub mod Counts
