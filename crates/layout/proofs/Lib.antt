@@ -17,3 +17,7 @@ pub mod Theorems
 pub mod Starred
 pub mod Bounds
 pub mod Counting
+pub mod Below
+pub mod Levels
+pub mod Rows
+pub mod RowCases

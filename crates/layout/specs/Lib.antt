@@ -5,3 +5,4 @@ pub mod Set
 pub mod Leaving
 pub mod Starred
 pub mod Counts
+pub mod Rows
