@@ -6,3 +6,4 @@ pub mod Leaving
 pub mod Starred
 pub mod Counts
 pub mod Rows
+pub mod Climb

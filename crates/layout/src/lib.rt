@@ -1,13 +1,14 @@
-// Counts of blocks by level, and a layout as one row for each level, from which a node is tested or found in constant time.
+// Counts of blocks by level, and their layout as one row for each level, from which a node is tested or found in constant time.
 ghost use mathlib.Core.Path.{_≡_};
-ghost use Prim.Native.Nat.{_^_, _≤_};
+ghost use Prim.Native.Nat.{_+_, _*_, _^_, _≤_, _<_};
 ghost use lib.ListN.{replicate};
-ghost use Rattle.layout.specs.Layout.{pages};
+ghost use Rattle.layout.specs.Layout.{pages, running, place, rise};
 ghost use Rattle.layout.specs.Change.{oneFewer};
 ghost use Rattle.layout.specs.Counts.{more};
-ghost use Rattle.layout.specs.Rows.{inRow, holdsNode, kthIndex, kthNode};
+ghost use Rattle.layout.specs.Rows.{rowsOf, inRow, holdsNode, kthIndex, kthNode, expectedNode};
+ghost use Rattle.layout.specs.Climb.{stateOf, mark};
 
-// What stands for an index where there is none.
+// What stands for an index, or for a level, where there is none.
 const NONE: u16 = 65_535;
 
 // How many blocks each level has.
@@ -78,6 +79,50 @@ impl Counts {
             level += 1;
         }
         sum
+    }
+
+    // The layout of the counts.
+    pub fn layout(self) -> Layout
+        requires { ⌜ pages (self .at) ≤ 4096 ⌝ }
+        ensures { λ r. ⌜ r ≡ rowsOf (self .at) ⌝ }
+    {
+        let at = self.at;
+        let mut start = [0u16; 13];
+        let mut run = [0u16; 13];
+        let mut lone = [NONE; 13];
+        let mut s = Climb {
+            before: 0,
+            level: NONE,
+            down: 0,
+        };
+        let mut l: usize = 0;
+        while l < 13 {
+            let c = at[l];
+            start[l] = s.before;
+            run[l] = s.running(c);
+            s = s.placed(l as u16, c);
+            let marked = s.marked(lone);
+            lone = marked;
+            s = s.risen();
+            l += 1;
+        }
+        Layout { start, run, lone }
+    }
+
+    // The k-th node of the level, left to right, in the layout of the counts; 0 where there is none, the counts have more pages than the
+    // tree, or the height is above 12.
+    pub fn expected(self, height: u16, level: u16, k: u16) -> u16
+        ensures { λ r. ⌜ r ≡ expectedNode (self .at) height level k ⌝ }
+    {
+        if 12 < height {
+            return 0;
+        }
+        let room = power(height) as u32;
+        let total = self.total();
+        if room < total {
+            return 0;
+        }
+        self.layout().node(height, level, k)
     }
 }
 
@@ -159,4 +204,90 @@ fn power(e: u16) -> u16
     ensures { λ r. ⌜ r ≡ 2 ^ e ⌝ }
 {
     1 << e
+}
+
+// What the levels below leave to a level: the first `before` subtrees are in use, and, unless `level` is NONE, the next one too, in which
+// a block of level `level` stands alone, `down` levels below.
+struct Climb {
+    before: u16,
+    level: u16,
+    down: u16,
+}
+
+impl Climb {
+    // How many of the level's blocks keep their place whatever comes: all but the one that becomes lone.
+    fn running(self, count: u16) -> u16
+        ensures { λ r. ⌜ r ≡ running (stateOf self) count ⌝ }
+    {
+        if self.level == NONE {
+            if 0 < count {
+                return count - 1;
+            }
+        }
+        count
+    }
+
+    // The state with the blocks of level l placed.
+    fn placed(self, l: u16, count: u16) -> Climb
+        requires { ⌜ (self .before + count < 2 ^ 16) × (l < 13) ⌝ }
+        ensures { λ r. ⌜ (stateOf r ≡ place l (stateOf self) count) × (r .down ≤ self .down) ⌝ }
+    {
+        if self.level != NONE {
+            return Climb {
+                before: self.before + count,
+                level: self.level,
+                down: self.down,
+            };
+        }
+        if count == 0 {
+            return self;
+        }
+        Climb {
+            before: self.before + (count - 1),
+            level: l,
+            down: 0,
+        }
+    }
+
+    // The lone places with the lone block's place so far.
+    fn marked(self, lone: [u16; 13]) -> [u16; 13]
+        requires { ⌜ (self .down ≤ 12) × (self .before * 2 ^ self .down < 2 ^ 16) ⌝ }
+        ensures { λ r. ⌜ r ≡ mark (stateOf self) lone ⌝ }
+    {
+        let mut marked = lone;
+        let level = self.level as usize;
+        if 13 <= level {
+            return lone;
+        }
+        marked[level] = self.before * power(self.down);
+        marked
+    }
+
+    // The state one level up.
+    fn risen(self) -> Climb
+        requires { ⌜ self .down ≤ 12 ⌝ }
+        ensures { λ r. ⌜ (stateOf r ≡ rise (stateOf self)) × (r .down ≤ self .down + 1) ⌝ }
+    {
+        let half = self.before / 2;
+        let rest = self.before % 2;
+        if self.level == NONE {
+            return Climb {
+                before: half + rest,
+                level: NONE,
+                down: 0,
+            };
+        }
+        if rest == 0 {
+            return Climb {
+                before: half,
+                level: self.level,
+                down: self.down + 1,
+            };
+        }
+        Climb {
+            before: half + 1,
+            level: NONE,
+            down: 0,
+        }
+    }
 }
