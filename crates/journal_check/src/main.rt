@@ -15,7 +15,7 @@ fn main() {
     writes();
 }
 
-// Every field at its largest, and a high byte that differs from the low one.
+// Every field at its largest; then numbers whose two bytes differ.
 fn kinds() {
     list(b"\x01\xff\x02\xff\xff\xff\x03\xff\xff\xff\xff\x04\xff\xff");
     list(b"\x01\x00\x02\x02\x01\x03\x03\x02\x01\x04\x03\x04\x02\x01");
@@ -63,7 +63,7 @@ fn offsets() {
     show(&[1u8; 65537], 65538);
 }
 
-// A record of each kind in five bytes, and in a byte less than it takes.
+// A record of each kind in five bytes; then one that just fits in four, and one that does not.
 fn writes() {
     write_in_5(Record::Open { height: 12 });
     write_in_5(Record::GrantLevel {
