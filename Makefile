@@ -2,7 +2,7 @@
 .PHONY: run test
 
 run:
-	@rt check layouts >target/build.log 2>&1 || { cat target/build.log; exit 1; }
+	@mkdir -p target && rt check layouts >target/build.log 2>&1 || { cat target/build.log; exit 1; }
 	@target/bin/layouts
 
 test:

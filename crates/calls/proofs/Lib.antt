@@ -11,3 +11,5 @@ pub mod Reported
 pub mod Box
 pub mod Demand
 pub mod Accepted
+pub mod Named
+pub mod Opening

@@ -1,1 +1,25 @@
-// The calls of the reserve.
+// The calls of the reserve over a lent table: opening, grants by level and by pages, releases.
+ghost use mathlib.Core.Path.{_≡_};
+ghost use Rattle.calls.specs.Step.{open-reserve};
+ghost use Rattle.calls.specs.Value.{answered};
+
+pub mod request;
+mod clear;
+
+// What a call reports: done, with the newcomer's node or the one given up (0 for an opening), or the number of its refusal.
+pub enum Answer {
+    Done { node: u16 },
+    Refused { number: u16 },
+}
+
+// Opens a reserve on a lent table: every entry becomes 0.
+pub fn open(height: u16, table: &mut [u16]) -> Answer
+    ensures { λ r. ⌜ answered r (now (table .exit)) ≡ open-reserve height (now (table .entry)) ⌝ }
+{
+    let number = request::reserve_refusal(height, table.len());
+    if number != 0 {
+        return Answer::Refused { number };
+    }
+    clear::clear(table);
+    Answer::Done { node: 0 }
+}

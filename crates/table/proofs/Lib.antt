@@ -9,6 +9,11 @@ pub mod Moved
 pub mod Newcomer
 pub mod Moves
 pub mod Written
+pub mod Used
+pub mod Tabulate
+pub mod Once
+pub mod Owners
+pub mod Levels
 pub mod Least
 pub mod Shifting
 pub mod RowNodes
