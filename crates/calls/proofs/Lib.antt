@@ -13,3 +13,4 @@ pub mod Demand
 pub mod Accepted
 pub mod Named
 pub mod Opening
+pub mod Carried

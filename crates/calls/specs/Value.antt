@@ -1,7 +1,10 @@
 -- What the functions' answers stand for: document 01's numbers and values.
 use mathlib.Core.List.{List, []}
-use Prim.Native.Nat.{ℕ}
+use Prim.Native.Nat.{ℕ, _≤_, _<_}
+use lib.ListN.{length, getD}
+use Rattle.table.specs.declared.plan.Plan.{Plan}
 use Rattle.calls.specs.Step.{Outcome}
+use Rattle.calls.specs.Accepted.{nobody}
 use Rattle.calls.specs.declared.Answer.{Answer}
 use Rattle.calls.specs.declared.Answer.the-variants.{Done, Refused}
 
@@ -18,3 +21,8 @@ nodeIn (Refused k) = 0
 -- an answer without moves, and the table afterwards
 abbrev pub answered : Answer → List ℕ → Outcome
 answered a T = record { answer = numberOf a; node = nodeIn a; moves = []; table = T }
+
+-- a plan of at most four moves, of tenants that the table has
+pub record TenantsIn (T : List ℕ) (p : Plan) : Type 0 where
+  pub few : p .n ≤ 4
+  pub tenants : (i : ℕ) → i < p .n → getD (p .moves) i nobody .tenant < length T
