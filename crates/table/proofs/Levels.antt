@@ -32,7 +32,7 @@ use Rattle.table.proofs.Owners.{owned-is-occupied, owner-has-node, held
 
 -- ---- a level's owners are its held nodes
 
-length-owners : (o : List ℕ) (i : ℕ) (T : List ℕ) → length (ownersFrom o i T) ≡ length o
+pub length-owners : (o : List ℕ) (i : ℕ) (T : List ℕ) → length (ownersFrom o i T) ≡ length o
 unfolding ownersFrom
 length-owners o i [] = refl
 length-owners o i (x ∷ T) = length-owners (set o (nodeOf x) (suc i)) (suc i) T ∙ length-set o (nodeOf x) (suc i)

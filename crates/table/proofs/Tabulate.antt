@@ -10,7 +10,7 @@ use lib.Dec.{leb, leb·zero}
 use lib.ListN.{set, replicate}
 use Rattle.table.specs.Table.{tabulate}
 
-tabulate-cong : (i n : ℕ) {f g : ℕ → ℕ} → ((j : ℕ) → i ≤ j → f j ≡ g j) → tabulate i n f ≡ tabulate i n g
+pub tabulate-cong : (i n : ℕ) {f g : ℕ → ℕ} → ((j : ℕ) → i ≤ j → f j ≡ g j) → tabulate i n f ≡ tabulate i n g
 tabulate-cong i zero e = refl
 tabulate-cong i (suc n) e = ap₂ _∷_ (e i (omega arith)) (tabulate-cong (suc i) n (λ j q. e j (omega arith)))
 
