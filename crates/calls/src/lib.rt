@@ -3,8 +3,8 @@ ghost use mathlib.Core.Path.{_≡_};
 ghost use Rattle.calls.specs.Step.{open-reserve};
 ghost use Rattle.calls.specs.Value.{answered};
 
-pub mod request;
 mod clear;
+pub mod request;
 
 // What a call reports: done, with the newcomer's node or the one given up (0 for an opening), or the number of its refusal.
 pub enum Answer {

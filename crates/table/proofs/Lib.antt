@@ -18,3 +18,4 @@ pub mod Least
 pub mod Shifting
 pub mod RowNodes
 pub mod Planning
+pub mod PlanLaws
