@@ -11,5 +11,6 @@ pub mod Reported
 pub mod Box
 pub mod Demand
 pub mod Accepted
-pub mod Named
 pub mod Opening
+pub mod Carried
+pub mod Changed
