@@ -173,7 +173,7 @@ impl Layout {
 }
 
 // Whether i is one of the `run` indices from `start` on, or is `lone`.
-fn in_row(start: u16, run: u16, lone: u16, i: u16) -> bool
+pub fn in_row(start: u16, run: u16, lone: u16, i: u16) -> bool
     ensures { λ r. ⌜ r ≡ inRow start run lone i ⌝ }
 {
     if i < start {

@@ -30,7 +30,7 @@ in-order-denied : (h : ℕ) (T : List ℕ) → h ≤ 12 → ¬ InOrder h T → f
 in-order-denied h T low never = in-order-decided h T false low (λ e. absurd (false≢true e)) (λ i. absurd (never i))
 
 pub past-tree-not-in-order : (h : ℕ) (T : List ℕ) → h ≤ 12 → nodes-below (2 ^ suc h) T ≡ false → false ≡ in-order? h T
-past-tree-not-in-order h T low e = in-order-denied h T low (λ i. false≢true (sym e ∙ below-of-nodes (2 ^ suc h) T (i .in-tree)))
+past-tree-not-in-order h T low e = in-order-denied h T low (λ i. false≢true (sym e ∙ below-of-nodes (2 ^ suc h) T (λ t q. i .in-tree t)))
 
 module _ {h : ℕ} {T cs o : List ℕ} (g : Gathered h T cs o) where
   in-tree : (t : ℕ) → nodeAt T t < 2 ^ suc h

@@ -1,18 +1,24 @@
 -- Laws of `tabulate`, and of filling such a list from its end.
 use mathlib.Core.Path.{_≡_, refl, sym, ap, ap₂, _∙_}
-use mathlib.Core.Bool.{true, false, cond}
-use mathlib.Core.List.{List, [], _∷_}
+use mathlib.Core.Bool.{cond}
+use mathlib.Core.List.{List, _∷_}
 use Prim.Native.Nat.{ℕ, zero, suc, _+_, _≤_, _<_}
+use native.Mathlib.Nat.{add-zero}
 use native.Mathlib.Omega.{arith}
 use native.Mathlib.Decide.{decLe}
 use borrow.Author.Tests.{le-leb, lt-leb}
-use lib.Dec.{leb, leb·zero}
-use lib.ListN.{set, replicate}
+use lib.Dec.{leb}
+use lib.ListN.{getD, set, replicate}
 use Rattle.table.specs.Table.{tabulate}
 
 pub tabulate-cong : (i n : ℕ) {f g : ℕ → ℕ} → ((j : ℕ) → i ≤ j → f j ≡ g j) → tabulate i n f ≡ tabulate i n g
 tabulate-cong i zero e = refl
 tabulate-cong i (suc n) e = ap₂ _∷_ (e i (omega arith)) (tabulate-cong (suc i) n (λ j q. e j (omega arith)))
+
+pub getD-tabulate : (i n : ℕ) (f : ℕ → ℕ) (k : ℕ) → k < n → getD (tabulate i n f) k 0 ≡ f (i + k)
+getD-tabulate i zero f k q = absurd (omega arith)
+getD-tabulate i (suc n) f zero q = ap f (sym (add-zero i))
+getD-tabulate i (suc n) f (suc k) q = getD-tabulate (suc i) n f k (omega arith) ∙ ap f (omega arith)
 
 tabulate-const : (i n c : ℕ) → tabulate i n (λ j. c) ≡ replicate n c
 tabulate-const i zero c = refl
