@@ -25,11 +25,11 @@ use Rattle.table.proofs.Tally.{Once, tally-agrees, all-pass, node-stand
 
 -- ---- the counts
 
-tabulate-length : (i n : ℕ) (f : ℕ → ℕ) → length (tabulate i n f) ≡ n
+pub tabulate-length : (i n : ℕ) (f : ℕ → ℕ) → length (tabulate i n f) ≡ n
 tabulate-length i zero f = refl
 tabulate-length i (suc n) f = ap suc (tabulate-length (suc i) n f)
 
-tabulate-at : (i n : ℕ) (f : ℕ → ℕ) (l : ℕ) → l < n → getD (tabulate i n f) l 0 ≡ f (i + l)
+pub tabulate-at : (i n : ℕ) (f : ℕ → ℕ) (l : ℕ) → l < n → getD (tabulate i n f) l 0 ≡ f (i + l)
 tabulate-at i zero f l q = absurd (omega arith)
 tabulate-at i (suc n) f zero q = ap f (omega arith)
 tabulate-at i (suc n) f (suc l) q = tabulate-at (suc i) n f l (omega arith) ∙ ap f (omega arith)

@@ -10,20 +10,20 @@ use lib.Dec.{leb, leb·zero}
 use lib.ListN.{set, replicate}
 use Rattle.table.specs.Table.{tabulate}
 
-tabulate-cong : (i n : ℕ) {f g : ℕ → ℕ} → ((j : ℕ) → i ≤ j → f j ≡ g j) → tabulate i n f ≡ tabulate i n g
+pub tabulate-cong : (i n : ℕ) {f g : ℕ → ℕ} → ((j : ℕ) → i ≤ j → j < i + n → f j ≡ g j) → tabulate i n f ≡ tabulate i n g
 tabulate-cong i zero e = refl
-tabulate-cong i (suc n) e = ap₂ _∷_ (e i (omega arith)) (tabulate-cong (suc i) n (λ j q. e j (omega arith)))
+tabulate-cong i (suc n) e = ap₂ _∷_ (e i (omega arith) (omega arith)) (tabulate-cong (suc i) n (λ j q r. e j (omega arith) (omega arith)))
 
-tabulate-const : (i n c : ℕ) → tabulate i n (λ j. c) ≡ replicate n c
+pub tabulate-const : (i n c : ℕ) → tabulate i n (λ j. c) ≡ replicate n c
 tabulate-const i zero c = refl
 tabulate-const i (suc n) c = ap (λ (xs : List ℕ). c ∷ xs) (tabulate-const (suc i) n c)
 
 -- two functions that differ at one number only
-set-tabulate : (i n k : ℕ) {f g : ℕ → ℕ} (at : ℕ) → i + k ≡ at → k < n → ((j : ℕ) → ¬ (j ≡ at) → f j ≡ g j) → set (tabulate i n f) k (g at) ≡ tabulate i n g
+pub set-tabulate : (i n k : ℕ) {f g : ℕ → ℕ} (at : ℕ) → i + k ≡ at → k < n → ((j : ℕ) → ¬ (j ≡ at) → f j ≡ g j) → set (tabulate i n f) k (g at) ≡ tabulate i n g
 set-tabulate i zero k at e q same = absurd (omega arith)
 set-tabulate i (suc n) zero {f} {g} at e q same =
     let i-is-at : i ≡ at = omega arith in
-    ap₂ _∷_ (ap g (sym i-is-at)) (tabulate-cong (suc i) n (λ j r. same j (λ (s : j ≡ at). omega arith)))
+    ap₂ _∷_ (ap g (sym i-is-at)) (tabulate-cong (suc i) n (λ j r u. same j (λ (s : j ≡ at). omega arith)))
 set-tabulate i (suc n) (suc k) {f} {g} at e q same =
     ap₂ _∷_ (same i (λ (s : i ≡ at). omega arith)) (set-tabulate (suc i) n k at (omega arith) (omega arith) same)
 
@@ -39,7 +39,7 @@ from-above k f j q = rw (le-leb k j q)
 
 -- the list of f, filled from the end: nothing yet where f is 0 from k on, one more, and all
 pub fill-none : (n k : ℕ) (f : ℕ → ℕ) → ((j : ℕ) → k ≤ j → f j ≡ 0) → replicate n 0 ≡ tabulate 0 n (from k f)
-fill-none n k f zeros = sym (tabulate-cong 0 n (λ j q. value j (decLe k j)) ∙ tabulate-const 0 n 0)
+fill-none n k f zeros = sym (tabulate-cong 0 n (λ j q r. value j (decLe k j)) ∙ tabulate-const 0 n 0)
   where
     value : (j : ℕ) → Dec (k ≤ j) → from k f j ≡ 0
     value j (yes q) = from-above k f j q ∙ zeros j q
@@ -54,4 +54,4 @@ fill-more n k f q =
     same j d (no r) = from-below (suc k) f j (omega arith) ∙ sym (from-below k f j (omega arith))
 
 pub fill-all : (n : ℕ) (f : ℕ → ℕ) → tabulate 0 n (from 0 f) ≡ tabulate 0 n f
-fill-all n f = tabulate-cong 0 n (λ j q. from-above 0 f j q)
+fill-all n f = tabulate-cong 0 n (λ j q r. from-above 0 f j q)

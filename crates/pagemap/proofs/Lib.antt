@@ -1,0 +1,6 @@
+pub mod Covered
+pub mod Bits
+pub mod SetBits
+pub mod Theorems
+pub mod Flags
+pub mod Rows
