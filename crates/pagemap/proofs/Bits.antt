@@ -16,6 +16,7 @@ use Rattle.tree.proofs.Sum.{sum-cong}
 use Rattle.layout.proofs.Pages.{sum-first}
 use Rattle.table.specs.Table.{tabulate}
 use Rattle.table.proofs.Order.{tabulate-length, tabulate-at}
+use Rattle.table.proofs.Tabulate.{tabulate-cong}
 use Rattle.pagemap.specs.Map.{byteOf, bytesOf}
 
 -- ---- the bits of a number
@@ -77,6 +78,10 @@ bytes-length n d = tabulate-length 0 n (byteOf d)
 pub byte-at : (n : ℕ) (d : ℕ → ℕ) (j : ℕ) → j < n → getD (bytesOf n d) j 0 ≡ byteOf d j
 unfolding bytesOf
 byte-at n d j q = tabulate-at 0 n (byteOf d) j q ∙ ap (byteOf d) (omega arith)
+
+pub bytes-cong : (n : ℕ) (d e : ℕ → ℕ) → ((p : ℕ) → p < 8 * n → d p ≡ e p) → bytesOf n d ≡ bytesOf n e
+unfolding bytesOf byteOf
+bytes-cong n d e same = tabulate-cong 0 n (λ j q r. sum-cong 8 (λ b s. ap (λ (x : ℕ). x * 2 ^ b) (same (8 * j + b) (omega arith))))
 
 pub byte-of-bits : (d : ℕ → ℕ) → ((p : ℕ) → d p ≤ 1) → (j : ℕ) → byteOf d j < 256
 unfolding byteOf

@@ -1,17 +1,16 @@
 -- A page is covered exactly if a held node of the tree covers it.
-use mathlib.Core.Path.{_≡_, refl, sym, ap, _∙_}
-use mathlib.Core.Bool.{Bool, true, false, _||_, or-true, false≢true}
+use mathlib.Core.Path.{_≡_, refl, ap, _∙_}
+use mathlib.Core.Bool.{Bool, true, false, _||_, or-true}
 use mathlib.Core.Logic.{_↔_}
 use mathlib.Core.List.{List}
-use Prim.Native.Nat.{ℕ, zero, suc, _+_, _-_, _*_, _/_, _^_, _≤_, _<_}
+use Prim.Native.Nat.{ℕ, zero, suc, _/_, _^_, _≤_, _<_}
 use native.Mathlib.Nat.{div-eq-of-lt-le}
 use native.Mathlib.Decide.{ℕ-discrete}
 use native.Mathlib.Omega.{arith}
 use borrow.Author.Tests.{leb-true, le-leb}
 use lib.Dec.{leb}
-use Rattle.tree.specs.Node.{InTree, Covers, level}
-use Rattle.tree.specs.Held.{both}
-use Rattle.tree.specs.Block.{Block, first, past, node, blockOf, Blocks, blocksOf}
+use Rattle.tree.specs.Node.{Covers, level}
+use Rattle.tree.specs.Block.{Block, past, node, blockOf, Blocks, blocksOf}
 use Rattle.tree.specs.Pages.{over, coveredb}
 use Rattle.tree.proofs.Coordinates.{node-in-tree, node-first, node-past, node-of-block, block-in-tree}
 use Rattle.tree.proofs.Sets.{both-left, both-right}

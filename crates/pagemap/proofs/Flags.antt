@@ -2,23 +2,26 @@
 use mathlib.Core.Path.{_≡_, refl, sym, ap, ap₂, _∙_}
 use mathlib.Core.Bool.{Bool, true, false, _||_, cond}
 use mathlib.Core.List.{List}
-use Prim.Native.Nat.{ℕ, zero, suc, _+_, _*_, _/_, _≤_, _<_}
+use Prim.Native.Nat.{ℕ, suc, _+_, _*_, _/_, _≤_, _<_}
 use native.Mathlib.Nat.{zero-add, le-div-iff-mul-le, div-lt-iff-lt-mul}
+use native.Mathlib.Decide.{decLt}
 use native.Mathlib.Omega.{arith}
 use borrow.Author.Tests.{leb-true, le-leb, ltb-true, lt-ltb, eqb-true, eq-eqb}
 use lib.Dec.{leb, ltb, eqb}
-use lib.ListN.{length, getD, set, replicate}
+use lib.ListN.{length, getD, set, replicate, List·getD-eq-default}
 use lib.Seq.{ext-getD}
 use Rattle.tree.specs.Held.{both, one-if}
 use Rattle.tree.proofs.Sets.{both-left, both-right}
+use Rattle.tree.proofs.Sum.{one-if-le-one}
 use Rattle.tree.proofs.Count.{equal-of-both-ways}
 use Rattle.layout.specs.Layout.{either}
 use Rattle.layout.specs.Rows.{inRow}
 use Rattle.layout.proofs.Sizes.{false-unless-true}
-use Rattle.table.specs.Table.{tabulate}
 use Rattle.table.proofs.Order.{tabulate-length, tabulate-at}
 use Rattle.table.proofs.Tabulate.{tabulate-cong, tabulate-const, set-tabulate}
-use Rattle.pagemap.specs.Flags.{flags, between, raised, rowRaised}
+use Rattle.pagemap.specs.Map.{bytesOf}
+use Rattle.pagemap.specs.Flags.{flags, between, filled, rowFilled}
+use Rattle.pagemap.proofs.Bits.{bytes-cong}
 
 -- ---- ranges
 
@@ -55,28 +58,28 @@ between-one x i =
 
 -- ---- a range set page by page
 
-pub raised-length : (a b : ℕ) (xs : List ℕ) → length (raised a b xs) ≡ length xs
-unfolding raised
-raised-length a b xs = tabulate-length 0 (length xs) (λ p. cond (between a b p) 1 (getD xs p 0))
+pub filled-length : (a b : ℕ) (xs : List ℕ) → length (filled a b xs) ≡ length xs
+unfolding filled
+filled-length a b xs = tabulate-length 0 (length xs) (λ p. cond (between a b p) 1 (getD xs p 0))
 
 module _ (a : ℕ) (xs : List ℕ) where
   -- page p's flag with the range to b set
   abbrev flagAt : ℕ → ℕ → ℕ
   flagAt b p = cond (between a b p) 1 (getD xs p 0)
 
-  pub raised-none : raised a a xs ≡ xs
-  unfolding raised
-  raised-none =
+  pub filled-none : filled a a xs ≡ xs
+  unfolding filled
+  filled-none =
       let long = tabulate-length 0 (length xs) (flagAt a) in
-      ext-getD 0 (raised a a xs) xs long (λ p q. tabulate-at 0 (length xs) (flagAt a) p (omega arith) ∙ rw zero-add (unchanged p))
+      ext-getD 0 (filled a a xs) xs long (λ p q. tabulate-at 0 (length xs) (flagAt a) p (omega arith) ∙ rw zero-add (unchanged p))
     where
       unchanged : (p : ℕ) → flagAt a p ≡ getD xs p 0
       unchanged p = rw (false-unless-true (between a a p) (λ e. omega (arith, of-between a a p e)))
 
-  pub raised-more : (i : ℕ) → a ≤ i → i < length xs → set (raised a i xs) i 1 ≡ raised a (suc i) xs
-  unfolding raised
-  raised-more i q r =
-      ap (set (raised a i xs) i) (sym at-i) ∙ set-tabulate 0 (length xs) i {f = flagAt i} {g = flagAt (suc i)} i (omega arith) r elsewhere
+  pub filled-more : (i : ℕ) → a ≤ i → i < length xs → set (filled a i xs) i 1 ≡ filled a (suc i) xs
+  unfolding filled
+  filled-more i q r =
+      ap (set (filled a i xs) i) (sym at-i) ∙ set-tabulate 0 (length xs) i {f = flagAt i} {g = flagAt (suc i)} i (omega arith) r elsewhere
     where
       at-i : flagAt (suc i) i ≡ 1
       at-i = rw (between-of a (suc i) i (omega arith))
@@ -85,10 +88,10 @@ module _ (a : ℕ) (xs : List ℕ) where
       elsewhere p d = rw (same-between a i p a (suc i) p (λ r. omega arith) (λ r. omega arith))
 
   -- ranges whose ends make no difference to the pages that there are
-  pub raised-same : (i b : ℕ) → ((p : ℕ) → p < length xs → (Between a i p → Between a b p) × (Between a b p → Between a i p))
-      → raised a i xs ≡ raised a b xs
-  unfolding raised
-  raised-same i b same =
+  pub filled-same : (i b : ℕ) → ((p : ℕ) → p < length xs → (Between a i p → Between a b p) × (Between a b p → Between a i p))
+      → filled a i xs ≡ filled a b xs
+  unfolding filled
+  filled-same i b same =
       tabulate-cong 0 (length xs) λ p q r.
       let both-ways = same p (omega arith) in
       ap (λ (t : Bool). cond t 1 (getD xs p 0)) (same-between a i p a b p (both-ways .0) (both-ways .1))
@@ -111,21 +114,32 @@ pub flag-at : (n : ℕ) (f : ℕ → Bool) (p : ℕ) → p < n → getD (flags n
 unfolding flags
 flag-at n f p q = tabulate-at 0 n (λ p. one-if (f p)) p q ∙ ap (λ (p : ℕ). one-if (f p)) (omega arith)
 
+pub flag-le-one : (n : ℕ) (f : ℕ → Bool) (p : ℕ) → getD (flags n f) p 0 ≤ 1
+flag-le-one n f p =
+    elim (decLt p n) [
+      | yes q ↦ rw (flag-at n f p q) (one-if-le-one (f p))
+      | no q ↦ rw (List·getD-eq-default (flags n f) 0 {n = p} (omega (arith, flags-length n f))) (omega arith)
+    ]
+
+-- packed, they are the bits of the map
+pub bytes-of-flags : (n m : ℕ) (f : ℕ → Bool) → 8 * m ≤ n → bytesOf m (λ p. getD (flags n f) p 0) ≡ bytesOf m (λ p. one-if (f p))
+bytes-of-flags n m f q = bytes-cong m (λ p. getD (flags n f) p 0) (λ p. one-if (f p)) (λ p r. flag-at n f p (omega arith))
+
 one-if-or-else : (b c : Bool) → cond b 1 (one-if c) ≡ one-if (b || c)
 one-if-or-else true c = refl
 one-if-or-else false c = refl
 
-raised-flags : (n a b : ℕ) (f : ℕ → Bool) → raised a b (flags n f) ≡ flags n (λ p. between a b p || f p)
-unfolding raised flags
-raised-flags n a b f =
+filled-flags : (n a b : ℕ) (f : ℕ → Bool) → filled a b (flags n f) ≡ flags n (λ p. between a b p || f p)
+unfolding filled flags
+filled-flags n a b f =
     rw (flags-length n f)
     (tabulate-cong 0 n (λ p q r. ap (cond (between a b p) 1) (flag-at n f p (omega arith)) ∙ one-if-or-else (between a b p) (f p)))
 
 -- the row of level l: its blocks have 2^l pages each
-pub row-raised : (n w s k x : ℕ) (f : ℕ → Bool) → 0 < w → rowRaised w s k x (flags n f) ≡ flags n (λ p. inRow s k x (p / w) || f p)
-row-raised n w s k x f q =
-    ap (raised (x * w) (suc x * w)) (raised-flags n (s * w) ((s + k) * w) f)
-    ∙ raised-flags n (x * w) (suc x * w) (λ p. between (s * w) ((s + k) * w) p || f p)
+pub row-filled : (n w s k x : ℕ) (f : ℕ → Bool) → 0 < w → rowFilled w s k x (flags n f) ≡ flags n (λ p. inRow s k x (p / w) || f p)
+row-filled n w s k x f q =
+    ap (filled (x * w) (suc x * w)) (filled-flags n (s * w) ((s + k) * w) f)
+    ∙ filled-flags n (x * w) (suc x * w) (λ p. between (s * w) ((s + k) * w) p || f p)
     ∙ flags-cong n _ _ in-row
   where
     regroup : (lone run rest : Bool) → (lone || (run || rest)) ≡ (either run lone || rest)

@@ -1,20 +1,20 @@
 -- What the page map is, for every height up to 12 and every table in order.
 use mathlib.Core.Path.{_≡_, refl, sym, ap, _∙_}
 use mathlib.Core.Bool.{Bool, true, false}
-use mathlib.Core.List.{List, [], _∷_, _++_}
-use Prim.Native.Nat.{ℕ, zero, suc, _+_, _*_, _^_, _≤_, _<_}
+use mathlib.Core.List.{List, _++_}
+use Prim.Native.Nat.{ℕ, suc, _*_, _^_, _≤_, _<_}
 use native.Mathlib.Omega.{arith}
 use borrow.Author.Tests.{le-ltb}
 use lib.Dec.{eqb}
-use lib.ListN.{length, getD, take, length-append}
+use lib.ListN.{length, getD, length-append}
 use lib.Seq.{take-at}
-use Rattle.tree.specs.Held.{one-if, count, sizes}
+use Rattle.tree.specs.Held.{one-if, count}
 use Rattle.tree.specs.Block.{Blocks, blocksOf, bsizes}
-use Rattle.tree.specs.Pages.{sum, pagesOf}
+use Rattle.tree.specs.Pages.{pagesOf}
 use Rattle.tree.proofs.Bridge.{legal-blocks}
 use Rattle.tree.proofs.Sets.{set-of-blocks}
 use Rattle.tree.proofs.Sizes.{sizes-of-blocks, sizes-above}
-use Rattle.tree.proofs.Sum.{sum-cong, sum-stops, one-if-le-one, one-if-not-true, count-as-sum}
+use Rattle.tree.proofs.Sum.{sum-cong, sum-stops, one-if-le-one, count-as-sum}
 use Rattle.tree.proofs.Room.{pages-covered}
 use Rattle.layout.specs.Layout.{pages}
 use Rattle.layout.proofs.Bounds.{power-le-4096}

@@ -16,9 +16,9 @@ abbrev pub between : ℕ → ℕ → ℕ → Bool
 between a b p = both (leb a p) (ltb p b)
 
 -- the flags with those of the pages a … b − 1 set
-unfoldable pub raised : ℕ → ℕ → List ℕ → List ℕ
-raised a b xs = tabulate 0 (length xs) (λ p. cond (between a b p) 1 (getD xs p 0))
+unfoldable pub filled : ℕ → ℕ → List ℕ → List ℕ
+filled a b xs = tabulate 0 (length xs) (λ p. cond (between a b p) 1 (getD xs p 0))
 
 -- the flags with those of the n blocks from index s on set, and of the block at index x, each of w pages
-abbrev pub rowRaised : ℕ → ℕ → ℕ → ℕ → List ℕ → List ℕ
-rowRaised w s n x xs = raised (x * w) (suc x * w) (raised (s * w) ((s + n) * w) xs)
+abbrev pub rowFilled : ℕ → ℕ → ℕ → ℕ → List ℕ → List ℕ
+rowFilled w s n x xs = filled (x * w) (suc x * w) (filled (s * w) ((s + n) * w) xs)

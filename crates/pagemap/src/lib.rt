@@ -3,11 +3,12 @@ ghost use mathlib.Core.Path.{_≡_};
 ghost use Prim.Native.Nat.{ℕ, min, suc, _+_, _*_, _^_, _≤_, _<_};
 ghost use mathlib.Core.List.{_++_};
 ghost use lib.ListN.{length, getD, drop};
+ghost use Rattle.tree.specs.Held.{one-if};
 ghost use Rattle.tree.specs.Pages.{coveredb};
 ghost use Rattle.layout.specs.Rows.{rowsHold};
 ghost use Rattle.pagemap.specs.Map.{byteOf, bytesOf};
 ghost use Rattle.pagemap.specs.Count.{setBits, counted};
-ghost use Rattle.pagemap.specs.Flags.{flags, raised, rowRaised};
+ghost use Rattle.pagemap.specs.Flags.{flags, filled, rowFilled};
 use layout::Layout;
 
 // What counting answers: 0 and the number of set bits, or 15 and 0.
@@ -46,6 +47,15 @@ fn set_bits(bytes: &[u8]) -> u16
     n
 }
 
+// Writes the map of the layout to the first 512 bytes.
+fn write_map(layout: Layout, map: &mut [u8])
+    requires { ⌜ 512 ≤ length (now map) ⌝ }
+    ensures { λ r. ⌜ now (map .exit) ≡ bytesOf 512 (λ p. one-if (coveredb 12 (rowsHold layout) p)) ++ drop 512 (now (map .entry)) ⌝ }
+{
+    let pages = page_flags(layout);
+    pack(&pages, map);
+}
+
 // A flag for each page: 1 where a block of the layout covers it.
 fn page_flags(layout: Layout) -> [u8; 4096]
     ensures { λ r. ⌜ r ≡ flags 4096 (coveredb 12 (rowsHold layout)) ⌝ }
@@ -57,7 +67,7 @@ fn page_flags(layout: Layout) -> [u8; 4096]
     let mut size: usize = 1;
     let mut level: usize = 0;
     while level < 13 {
-        raise_row(&mut pages, size, starts[level], runs[level], lones[level]);
+        fill_row(&mut pages, size, starts[level], runs[level], lones[level]);
         size *= 2;
         level += 1;
     }
@@ -66,21 +76,21 @@ fn page_flags(layout: Layout) -> [u8; 4096]
 
 // Sets the flags of the pages of the `run` blocks from index `start` on and of the block at index `lone`, each of `size` pages. Blocks past
 // the last page have none; no size puts index 65,535, which stands for no block, before it.
-fn raise_row(pages: &mut [u8; 4096], size: usize, start: u16, run: u16, lone: u16)
+fn fill_row(pages: &mut [u8; 4096], size: usize, start: u16, run: u16, lone: u16)
     requires { ⌜ (size ≤ 4096) × (length (now pages) ≡ 4096) ⌝ }
-    ensures { λ r. ⌜ now (pages .exit) ≡ rowRaised size start run lone (now (pages .entry)) ⌝ }
+    ensures { λ r. ⌜ now (pages .exit) ≡ rowFilled size start run lone (now (pages .entry)) ⌝ }
 {
     let first = start as usize;
     let past = first + run as usize;
-    raise(pages, first * size, past * size);
+    fill(pages, first * size, past * size);
     let at = lone as usize;
-    raise(pages, at * size, (at + 1) * size);
+    fill(pages, at * size, (at + 1) * size);
 }
 
 // Sets the flags of the pages from `from` to before `to`.
-fn raise(pages: &mut [u8; 4096], from: usize, to: usize)
+fn fill(pages: &mut [u8; 4096], from: usize, to: usize)
     requires { ⌜ length (now pages) ≡ 4096 ⌝ }
-    ensures { λ r. ⌜ now (pages .exit) ≡ raised from to (now (pages .entry)) ⌝ }
+    ensures { λ r. ⌜ now (pages .exit) ≡ filled from to (now (pages .entry)) ⌝ }
 {
     let end = capped(to);
     let mut i = from;

@@ -1,6 +1,6 @@
 -- `pagemap::set_bits` meets its contract. The loop's invariant: the count so far, and the set bits from `i` on, make the whole.
 use mathlib.Core.Path.{_≡_}
-use Prim.Native.Nat.{ℕ, _+_, _-_, _*_, _≤_}
+use Prim.Native.Nat.{_+_, _-_, _*_, _≤_}
 use native.Mathlib.Numerals.{add-one}
 use native.Mathlib.Omega.{arith}
 use borrow.Author.Needs.{needs}
