@@ -36,10 +36,10 @@ use Rattle.calls.proofs.Cases.{both-zero, Granted, Released, Case, by-g
 use Rattle.calls.proofs.Box.{grants-do-not-release}
 
 -- the book that a table in order gives
-abbrev bookOf : ℕ → List ℕ → Book
+abbrev pub bookOf : ℕ → List ℕ → Book
 bookOf h T t = cond (eqb (nodeAt T t) 0) none (some (level h (nodeAt T t)))
 
-kept-of-order : (h : ℕ) (T : List ℕ) → h ≤ 12 → length T ≡ 4096 → InOrder h T → Kept h T (bookOf h T)
+pub kept-of-order : (h : ℕ) (T : List ℕ) → h ≤ 12 → length T ≡ 4096 → InOrder h T → Kept h T (bookOf h T)
 kept-of-order h T q e o = record { height = q; entries = e; in-order = o; agrees = λ t. go t (eqb (nodeAt T t) 0) refl }
   where
     go : (t : ℕ) (b : Bool) → eqb (nodeAt T t) 0 ≡ b → Agrees h (cond b none (some (level h (nodeAt T t)))) (nodeAt T t)

@@ -1,13 +1,16 @@
 -- The level that a number of pages asks for is the smallest whose block has that many.
 use mathlib.Core.Path.{_≡_, refl, sym, ap, _∙_}
 use mathlib.Core.Bool.{Bool, true, false, cond}
-use Prim.Native.Nat.{ℕ, zero, suc, _+_, _^_, _≤_, _<_}
-use native.Mathlib.Nat.{add-zero, add-suc, suc-add, zero-add, pow-suc}
+use Prim.Native.Nat.{ℕ, zero, suc, _+_, _-_, _^_, _≤_, _<_}
+use native.Mathlib.Nat.{add-zero, add-suc, suc-add, zero-add, pow-suc, le-antisymm}
+use native.Mathlib.Numerals.{add-one}
 use native.Mathlib.Omega.{arith}
 use native.Mathlib.Decide.{decLt}
 use borrow.Author.Tests.{leb-true, leb-false}
 use lib.Dec.{leb}
 use lib.Pow.{pow-mono, pow-pos}
+use Rattle.tree.specs.Node.{depth}
+use Rattle.tree.proofs.Highest.{Highest, depth-highest}
 use Rattle.calls.specs.Call.{leastFrom, levelFor}
 
 -- l is the smallest level whose block has p pages
@@ -33,7 +36,7 @@ least-from l (suc n) p q s = go (leb p (2 ^ l)) refl (λ s′. least-from (suc l
             not-lt : ¬ (l < m) → m ≤ l
             not-lt f = omega arith
 
-le-pow : (p : ℕ) → p ≤ 2 ^ p
+pub le-pow : (p : ℕ) → p ≤ 2 ^ p
 le-pow zero = omega arith
 le-pow (suc p) = rw pow-suc (omega (arith, le-pow p, pow-pos p))
 
@@ -44,3 +47,23 @@ level-for-least p = least-from 0 p p (rw zero-add (le-pow p)) (λ m q. omega ari
 -- so pages that the reserve has ask for a level that it has
 pub level-for-le : (p h : ℕ) → p ≤ 2 ^ h → levelFor p ≤ h
 level-for-le p h q = level-for-least p .smallest h q
+
+least-unique : (p l m : ℕ) → Least p l → Least p m → l ≡ m
+least-unique p l m a b = le-antisymm (a .smallest m (b .enough)) (b .smallest l (a .enough))
+
+pub level-for-is : (p l : ℕ) → Least p l → levelFor p ≡ l
+level-for-is p l a = least-unique p (levelFor p) l (level-for-least p) a
+
+-- two pages or more: the level above the depth of one page less
+pub least-by-depth : (p : ℕ) → 1 < p → Least p (depth (p - 1) + 1)
+least-by-depth p q = go (depth-highest (p - 1) (omega arith))
+  where
+    go : Highest (depth (p - 1)) (p - 1) → Least p (depth (p - 1) + 1)
+    go b = record { enough = rw add-one (omega (arith, b .high)); smallest = λ m r. above m r (decLt (depth (p - 1)) m) }
+      where
+        above : (m : ℕ) → p ≤ 2 ^ m → Dec (depth (p - 1) < m) → depth (p - 1) + 1 ≤ m
+        above m r (yes s) = omega arith
+        above m r (no ns) = absurd (omega (arith, b .low, pow-mono (not-lt ns)))
+          where
+            not-lt : ¬ (depth (p - 1) < m) → m ≤ depth (p - 1)
+            not-lt f = omega arith

@@ -11,3 +11,6 @@ pub mod Reported
 pub mod Box
 pub mod Demand
 pub mod Accepted
+pub mod Opening
+pub mod Carried
+pub mod Changed

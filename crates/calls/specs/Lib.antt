@@ -3,3 +3,5 @@ pub mod Step
 pub mod History
 pub mod Demand
 pub mod Accepted
+pub mod Changes
+pub mod Value

@@ -43,7 +43,8 @@ run-of-other m {l} i (suc n) d = rw (ne-eqb l m d) (run-of-other m (suc i) n d)
 
 -- Lone blocks
 
--- the lone block where it ends, if it is of level m: after a level's blocks are placed, with the counts above; and before, with the level's own
+-- the lone block where it comes to rest, if it is of level m: after a level's blocks are placed, with the counts above;
+-- and before, with the level's own count too
 lone-after : ℕ → State → List ℕ → List Block
 lone-after m (full u) cs = []
 lone-after m (lone v j k) cs = atLevel m (block j (settlesAt v k cs) ∷ [])

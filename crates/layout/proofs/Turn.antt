@@ -47,10 +47,11 @@ pub record Climbed (cs ss ns xs : List ℕ) (s : State) (l : ℕ) : Type 0 where
   pub lones-so-far : written l s (drop l cs) xs ≡ lones cs
   pub room : start s * 2 ^ l + pagesFrom l (drop l cs) ≤ 4096 + 2 ^ l
 
-pub climbed-none : (cs : List ℕ) → length cs ≡ 13 → pages cs ≤ 4096
-    → Climbed cs (replicate 13 0) (replicate 13 0) (replicate 13 no-index) (full 0) 0
+pub climbed-none : {cs : List ℕ} {s : State} → length cs ≡ 13 → pages cs ≤ 4096 → s ≡ full 0
+    → Climbed cs (replicate 13 0) (replicate 13 0) (replicate 13 no-index) s 0
 unfolding starts runs pages
-climbed-none cs e f =
+climbed-none {cs} e f is-empty =
+    rw is-empty
     record {
       inside = omega arith;
       starts-long = refl;

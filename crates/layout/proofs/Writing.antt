@@ -15,7 +15,8 @@ unfoldable pub written : ℕ → State → List ℕ → List ℕ → List ℕ
 written l s [] xs = xs
 written l s (c ∷ cs) xs = written (suc l) (rise (place l s c)) cs (mark (place l s c) xs)
 
--- the list with the place where the lone block ends, after a level's blocks are placed, with the counts above; and before, with the level's own
+-- the list with the place where the lone block comes to rest: after a level's blocks are placed, with the counts above;
+-- and before, with the level's own count too
 settle-after : State → List ℕ → List ℕ → List ℕ
 settle-after (full u) cs xs = xs
 settle-after (lone v j k) cs xs = set xs j (settlesAt v k cs)
@@ -25,7 +26,7 @@ settle-before (full u) cs xs = xs
 settle-before (lone v j k) [] xs = xs
 settle-before (lone v j k) (c ∷ cs) xs = set xs j (settlesAt (v + c) k cs)
 
--- the place written last is where the lone block ends
+-- the place written last is where the lone block comes to rest
 settle-rise : (t : State) (cs xs : List ℕ) → settle-before (rise t) cs (mark t xs) ≡ settle-after t cs xs
 unfolding settle-before settle-after
 settle-rise (full u) cs xs = go (half u)

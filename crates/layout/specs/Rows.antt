@@ -1,5 +1,5 @@
--- The layout of given counts as rows, one for each level: where the level's run begins, how many blocks the run has, and the index at which
--- the level's last block ends if that is the one that became lone. `proofs/Rows.antt` shows that the rows hold the layout's blocks.
+-- The layout of given counts as rows, one for each level: where the level's run begins, how many blocks the run has, and the index where
+-- the level's last block comes to rest, if that is the one that becomes lone. `proofs/Rows.antt` shows that the rows hold the layout's blocks.
 use mathlib.Core.Bool.{Bool, cond}
 use mathlib.Core.List.{List, [], _∷_, _++_, map}
 use Prim.Native.Nat.{ℕ, zero, suc, _+_, _-_, _*_, _^_}
@@ -11,7 +11,7 @@ use Rattle.layout.specs.Layout.{Half, even, odd, half, State, full, lone
 use Rattle.layout.specs.Runs.{starts, runs}
 use Rattle.layout.specs.declared.Layout.{Layout}
 
--- what stands for an index where there is none; no tree of height 12 has it
+-- what stands for an index where there is none; no level of a tree of height 12 has it
 abbrev pub no-index : ℕ
 no-index = 65535
 
@@ -21,13 +21,13 @@ abbrev pub settles : ℕ → (ℕ → ℕ) → Half → ℕ
 settles here above (even w) = above w
 settles here above (odd w) = here
 
--- The index at which a lone block ends. It stands at the left end of a subtree, k levels down, with v such subtrees before it, and cs are the
+-- The index where a lone block comes to rest. It stands at the left end of a subtree, k levels down, with v such subtrees before it, and cs are the
 -- counts of the levels above. While v is even it stays alone, and the next level's blocks come before it.
 abbrev pub settlesAt : ℕ → ℕ → List ℕ → ℕ
 settlesAt v k [] = v * 2 ^ k
 settlesAt v k (c ∷ cs) = settles (v * 2 ^ k) (λ w. settlesAt (w + c) (suc k) cs) (half v)
 
--- the index at which the last of a level's c blocks ends, if it becomes the lone one; cs are the counts of the levels above
+-- the index where the last of a level's c blocks comes to rest, if it becomes the lone one; cs are the counts of the levels above
 abbrev pub loneIndex : State → ℕ → List ℕ → ℕ
 loneIndex (full u) zero cs = no-index
 loneIndex (full u) (suc c) cs = settlesAt (u + c) 0 cs

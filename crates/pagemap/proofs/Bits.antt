@@ -15,8 +15,7 @@ use Rattle.tree.specs.Pages.{sum}
 use Rattle.tree.proofs.Sum.{sum-cong}
 use Rattle.layout.proofs.Pages.{sum-first}
 use Rattle.table.specs.Table.{tabulate}
-use Rattle.table.proofs.Order.{tabulate-length, tabulate-at}
-use Rattle.table.proofs.Tabulate.{tabulate-cong}
+use Rattle.table.proofs.Tabulate.{tabulate-length, getD-tabulate, tabulate-cong, tabulate-last}
 use Rattle.pagemap.specs.Map.{byteOf, bytesOf}
 
 -- ---- the bits of a number
@@ -77,7 +76,7 @@ bytes-length n d = tabulate-length 0 n (byteOf d)
 
 pub byte-at : (n : ℕ) (d : ℕ → ℕ) (j : ℕ) → j < n → getD (bytesOf n d) j 0 ≡ byteOf d j
 unfolding bytesOf
-byte-at n d j q = tabulate-at 0 n (byteOf d) j q ∙ ap (byteOf d) (omega arith)
+byte-at n d j q = getD-tabulate 0 n (byteOf d) j q ∙ ap (byteOf d) (omega arith)
 
 pub bytes-cong : (n : ℕ) (d e : ℕ → ℕ) → ((p : ℕ) → p < 8 * n → d p ≡ e p) → bytesOf n d ≡ bytesOf n e
 unfolding bytesOf byteOf
@@ -104,10 +103,6 @@ module _ (d : ℕ → ℕ) (bits : (p : ℕ) → d p ≤ 1) (n : ℕ) where
       ∙ ap d (omega arith)
 
 -- ---- bytes written to the front of a lent map
-
-tabulate-last : (i n : ℕ) (f : ℕ → ℕ) → tabulate i (suc n) f ≡ tabulate i n f ++ (f (i + n) ∷ [])
-tabulate-last i zero f = rw add-zero
-tabulate-last i (suc n) f = ap (λ (xs : List ℕ). f i ∷ xs) (rw (add-suc, ← suc-add) (tabulate-last (suc i) n f))
 
 module _ (d : ℕ → ℕ) (m : List ℕ) where
   pub no-bytes : bytesOf 0 d ++ drop 0 m ≡ m

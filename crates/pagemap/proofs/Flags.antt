@@ -17,8 +17,7 @@ use Rattle.tree.proofs.Count.{equal-of-both-ways}
 use Rattle.layout.specs.Layout.{either}
 use Rattle.layout.specs.Rows.{inRow}
 use Rattle.layout.proofs.Sizes.{false-unless-true}
-use Rattle.table.proofs.Order.{tabulate-length, tabulate-at}
-use Rattle.table.proofs.Tabulate.{tabulate-cong, tabulate-const, set-tabulate}
+use Rattle.table.proofs.Tabulate.{tabulate-length, getD-tabulate, tabulate-cong, tabulate-const, set-tabulate}
 use Rattle.pagemap.specs.Map.{bytesOf}
 use Rattle.pagemap.specs.Flags.{flags, between, filled, rowFilled}
 use Rattle.pagemap.proofs.Bits.{bytes-cong}
@@ -71,7 +70,7 @@ module _ (a : ℕ) (xs : List ℕ) where
   unfolding filled
   filled-none =
       let long = tabulate-length 0 (length xs) (flagAt a) in
-      ext-getD 0 (filled a a xs) xs long (λ p q. tabulate-at 0 (length xs) (flagAt a) p (omega arith) ∙ rw zero-add (unchanged p))
+      ext-getD 0 (filled a a xs) xs long (λ p q. getD-tabulate 0 (length xs) (flagAt a) p (omega arith) ∙ rw zero-add (unchanged p))
     where
       unchanged : (p : ℕ) → flagAt a p ≡ getD xs p 0
       unchanged p = rw (false-unless-true (between a a p) (λ e. omega (arith, of-between a a p e)))
@@ -112,7 +111,7 @@ flags-length n f = tabulate-length 0 n (λ p. one-if (f p))
 
 pub flag-at : (n : ℕ) (f : ℕ → Bool) (p : ℕ) → p < n → getD (flags n f) p 0 ≡ one-if (f p)
 unfolding flags
-flag-at n f p q = tabulate-at 0 n (λ p. one-if (f p)) p q ∙ ap (λ (p : ℕ). one-if (f p)) (omega arith)
+flag-at n f p q = getD-tabulate 0 n (λ p. one-if (f p)) p q ∙ ap (λ (p : ℕ). one-if (f p)) (omega arith)
 
 pub flag-le-one : (n : ℕ) (f : ℕ → Bool) (p : ℕ) → getD (flags n f) p 0 ≤ 1
 flag-le-one n f p =

@@ -52,7 +52,7 @@ sum-of-one (suc n) k f q others =
       | no d ↦ omega (arith, others n d, sum-of-one n k f (omega arith) others)
     ]
 
--- an entry's node is new to the table below it
+-- 1 for a node that does not stand in the entries after it
 new : ℕ → List ℕ → ℕ
 new n T = one-if (ltb 0 n && not (stands T n))
 
@@ -93,7 +93,6 @@ new-le n T = by-value (ltb 0 n) (stands T n)
     by-value true false = omega arith
     by-value false later = omega arith
 
--- a used entry's node is new exactly when it does not stand in the rest
 new-if-absent : (n : ℕ) (T : List ℕ) → (0 < n → stands T n ≡ false) → new n T ≡ one-if (ltb 0 n)
 unfolding new
 new-if-absent n T absent = by-value (ltb 0 n) refl

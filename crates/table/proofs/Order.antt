@@ -19,20 +19,12 @@ use Rattle.tree.proofs.Count.{equal-of-both-ways}
 use Rattle.layout.specs.Layout.{pages}
 use Rattle.layout.specs.Set.{layoutSet}
 use Rattle.layout.proofs.Theorems.{layout-in-tree, layout-is-legal, layout-is-safe, layout-has-counts, legal-set-fits, safe-set-is-layout}
-use Rattle.table.specs.Table.{nodeAt, occupied, InOrder, tally, tenantsAt, tabulate, countsOf, all-below, in-order?}
+use Rattle.table.specs.Table.{nodeAt, occupied, InOrder, tally, tenantsAt, countsOf, all-below, in-order?}
+use Rattle.table.proofs.Tabulate.{tabulate-length, getD-tabulate}
 use Rattle.table.proofs.Tally.{node-in-table, tenant-of, occupied-above-zero, occupied-by}
 use Rattle.table.proofs.Tally.{Once, tally-agrees, all-pass, node-stands-once, once-of-tally, tally-is-count}
 
 -- ---- the counts
-
-pub tabulate-length : (i n : ℕ) (f : ℕ → ℕ) → length (tabulate i n f) ≡ n
-tabulate-length i zero f = refl
-tabulate-length i (suc n) f = ap suc (tabulate-length (suc i) n f)
-
-pub tabulate-at : (i n : ℕ) (f : ℕ → ℕ) (l : ℕ) → l < n → getD (tabulate i n f) l 0 ≡ f (i + l)
-tabulate-at i zero f l q = absurd (omega arith)
-tabulate-at i (suc n) f zero q = ap f (omega arith)
-tabulate-at i (suc n) f (suc l) q = tabulate-at (suc i) n f l (omega arith) ∙ ap f (omega arith)
 
 pub counts-length : (h : ℕ) (T : List ℕ) → length (countsOf h T) ≡ 13
 unfolding countsOf
@@ -40,7 +32,7 @@ counts-length h T = tabulate-length 0 13 (tenantsAt h T)
 
 pub counts-at : (h : ℕ) (T : List ℕ) (l : ℕ) → l < 13 → getD (countsOf h T) l 0 ≡ tenantsAt h T l
 unfolding countsOf
-counts-at h T l q = tabulate-at 0 13 (tenantsAt h T) l q ∙ ap (tenantsAt h T) (omega arith)
+counts-at h T l q = getD-tabulate 0 13 (tenantsAt h T) l q ∙ ap (tenantsAt h T) (omega arith)
 
 pub counts-past : (h : ℕ) (T : List ℕ) (l : ℕ) → 13 ≤ l → getD (countsOf h T) l 0 ≡ 0
 counts-past h T l q = List·getD-eq-default (countsOf h T) 0 {n = l} (omega (arith, counts-length h T))
@@ -63,16 +55,19 @@ module _ (h : ℕ) (T : List ℕ) (below : (t : ℕ) → nodeAt T t < 2 ^ suc h)
       by-value n true v = rw (lt-ltb 0 n (occupied-above-zero T n v))
       by-value n false v = refl
 
--- ---- a table in order
-
--- Up to height 12 the thirteen counts are the sizes of all levels.
-module _ (h : ℕ) (T : List ℕ) (low : h ≤ 12) (o : InOrder h T) where
-  pub in-order-counts : (l : ℕ) → sizes h (occupied T) l ≡ getD (countsOf h T) l 0
-  in-order-counts l =
+  -- up to height 12 the thirteen counts are the sizes of all levels
+  pub sizes-are-counts : h ≤ 12 → Once T → (l : ℕ) → sizes h (occupied T) l ≡ getD (countsOf h T) l 0
+  sizes-are-counts low once l =
       elim (decLt l 13) [
-        | yes q ↦ sym (counts-at h T l q ∙ tenants-are-sizes h T (o .in-tree) (o .once) l)
+        | yes q ↦ sym (counts-at h T l q ∙ tenants-are-sizes once l)
         | no q ↦ sizes-above h (occupied T) l (omega arith) ∙ sym (counts-past h T l (omega arith))
       ]
+
+-- ---- a table in order
+
+module _ (h : ℕ) (T : List ℕ) (low : h ≤ 12) (o : InOrder h T) where
+  pub in-order-counts : (l : ℕ) → sizes h (occupied T) l ≡ getD (countsOf h T) l 0
+  in-order-counts = sizes-are-counts h T (o .in-tree) low (o .once)
 
   pub in-order-fits : pages (countsOf h T) ≤ 2 ^ h
   in-order-fits = legal-set-fits h (countsOf h T) (occupied T) (occupied-in-tree h T (o .in-tree)) (o .legal) in-order-counts
@@ -114,7 +109,7 @@ module _ (h : ℕ) (T cs : List ℕ) (fits : pages cs ≤ 2 ^ h) (same : (n : �
 
 -- ---- the test
 
-all-below-at : (n : ℕ) (p : ℕ → Bool) → all-below n p ≡ true → (i : ℕ) → i < n → p i ≡ true
+pub all-below-at : (n : ℕ) (p : ℕ → Bool) → all-below n p ≡ true → (i : ℕ) → i < n → p i ≡ true
 unfolding all-below
 all-below-at zero p e i q = absurd (omega arith)
 all-below-at (suc n) p e i q =
@@ -124,7 +119,7 @@ all-below-at (suc n) p e i q =
       | no d ↦ all-below-at n p (parts .1) i (omega arith)
     ]
 
-all-below-of : (n : ℕ) (p : ℕ → Bool) → ((i : ℕ) → i < n → p i ≡ true) → all-below n p ≡ true
+pub all-below-of : (n : ℕ) (p : ℕ → Bool) → ((i : ℕ) → i < n → p i ≡ true) → all-below n p ≡ true
 unfolding all-below
 all-below-of zero p f = refl
 all-below-of (suc n) p f = ap₂ _&&_ (f n (omega arith)) (all-below-of n p (λ i q. f i (omega arith)))

@@ -1,14 +1,17 @@
 -- Laws of the owners by node: which nodes have an owner, and who that is.
-use mathlib.Core.Path.{_≡_, refl, sym, ap, _∙_}
-use mathlib.Core.Bool.{Bool, true, false, _&&_, _||_, cond, false≢true, and-eq-true-iff}
+use mathlib.Core.Path.{_≡_, refl, sym, _∙_}
+use mathlib.Core.Bool.{Bool, true, false, _&&_, _||_, false≢true, and-eq-true-iff}
 use mathlib.Core.List.{List, [], _∷_}
 use Prim.Native.Nat.{ℕ, zero, suc, _+_, _≤_, _<_}
+use native.Mathlib.Nat.{zero-add}
 use native.Mathlib.Omega.{arith}
-use borrow.Author.Tests.{lt-ltb, le-ltb, ltb-true, eqb-true, eqb-false, eq-eqb}
-use lib.Dec.{ltb, eqb}
-use lib.ListN.{length, getD, set, drop, replicate, drop-of-length-le, length-set, length-replicate, getD-replicate}
+use native.Mathlib.Decide.{decLt}
+use borrow.Author.Tests.{lt-ltb, le-ltb, ltb-true, lt-leb, le-leb, eqb-true, eqb-false, ne-eqb}
+use lib.Dec.{ltb, leb, eqb}
+use lib.ListN.{length, getD, set, drop, replicate, drop-of-length-le, length-set, length-replicate, getD-replicate, List·getD-eq-default}
 use lib.Seq.{drop-cons, getD-set-same, getD-set-other}
-use Rattle.table.specs.Table.{nodeOf, nodeAt, stands, occupied}
+use Rattle.tree.specs.Held.{one-if}
+use Rattle.table.specs.Table.{nodeOf, nodeAt, stands, occupied, tally}
 use Rattle.table.specs.Pairing.{ownerOf}
 use Rattle.table.specs.Owners.{nodes-below, ownersFrom, ownersOf}
 use Rattle.table.proofs.Once.{Once, first-owner}
@@ -24,39 +27,46 @@ pub owners-end : (o : List ℕ) (T : List ℕ) (i : ℕ) → length T ≤ i → 
 unfolding ownersFrom
 owners-end o T i q = rw (drop-of-length-le T q)
 
-pub below-step : (m : ℕ) (T : List ℕ) (i : ℕ) → i < length T → nodeAt T i < m → nodes-below m (drop i T) ≡ nodes-below m (drop (suc i) T)
-unfolding nodes-below
-below-step m T i q r = rw (drop-cons T i 0 q, lt-ltb (nodeAt T i) m r)
-
-pub below-fails : (m : ℕ) (T : List ℕ) (i : ℕ) → i < length T → m ≤ nodeAt T i → nodes-below m (drop i T) ≡ false
-unfolding nodes-below
-below-fails m T i q r = rw (drop-cons T i 0 q, le-ltb (nodeAt T i) m r)
-
-pub below-end : (m : ℕ) (T : List ℕ) (i : ℕ) → length T ≤ i → nodes-below m (drop i T) ≡ true
-unfolding nodes-below
-below-end m T i q = rw (drop-of-length-le T q)
-
 -- ---- every node is below the limit
 
-pub nodes-are-below : (m : ℕ) (T : List ℕ) → 0 < m → nodes-below m T ≡ true → (t : ℕ) → nodeAt T t < m
-unfolding nodes-below
-nodes-are-below m [] q e t = q
-nodes-are-below m (x ∷ T) q e t = by-first (ltb (nodeOf x) m) refl e t (nodes-are-below m T q)
+-- that is: none is counted that is at least the limit
+pub below-if-none-past : (m : ℕ) (T : List ℕ) → eqb (tally (λ n. leb m n) T) 0 ≡ nodes-below m T
+unfolding nodes-below tally
+below-if-none-past m [] = refl
+below-if-none-past m (x ∷ T) = by-first (decLt (nodeOf x) m) (below-if-none-past m T)
   where
-    by-first : (b : Bool) → ltb (nodeOf x) m ≡ b → (b && nodes-below m T) ≡ true → (t : ℕ) → (nodes-below m T ≡ true → (t : ℕ) → nodeAt T t < m)
-        → nodeAt (x ∷ T) t < m
-    by-first true p e zero later = ltb-true (nodeOf x) m p
-    by-first true p e (suc t) later = later e t
-    by-first false p e t later = absurd (false≢true e)
+    by-first : Dec (nodeOf x < m) → eqb (tally (λ n. leb m n) T) 0 ≡ nodes-below m T
+        → eqb (one-if (leb m (nodeOf x)) + tally (λ n. leb m n) T) 0 ≡ (ltb (nodeOf x) m && nodes-below m T)
+    by-first (yes q) later = rw (lt-leb m (nodeOf x) q, lt-ltb (nodeOf x) m q, zero-add (tally (λ n. leb m n) T)) later
+    by-first (no q) later =
+        rw (le-leb m (nodeOf x) (omega arith), le-ltb (nodeOf x) m (omega arith))
+        (ne-eqb (1 + tally (λ n. leb m n) T) 0 (λ (e : 1 + tally (λ n. leb m n) T ≡ 0). omega arith))
 
-pub below-of-nodes : (m : ℕ) (T : List ℕ) → ((t : ℕ) → nodeAt T t < m) → nodes-below m T ≡ true
+pub node-below : (m : ℕ) (T : List ℕ) → nodes-below m T ≡ true → (t : ℕ) → t < length T → nodeAt T t < m
+unfolding nodes-below
+node-below m [] e t q = absurd (omega arith)
+node-below m (x ∷ T) e zero q = ltb-true (nodeOf x) m (and-eq-true-iff (ltb (nodeOf x) m) (nodes-below m T) .0 e .0)
+node-below m (x ∷ T) e (suc t) q = node-below m T (and-eq-true-iff (ltb (nodeOf x) m) (nodes-below m T) .0 e .1) t (omega arith)
+
+-- past the end of the table there is only 0
+pub nodes-are-below : (m : ℕ) (T : List ℕ) → 0 < m → nodes-below m T ≡ true → (t : ℕ) → nodeAt T t < m
+nodes-are-below m T p e t =
+    elim (decLt t (length T)) [
+      | yes q ↦ node-below m T e t q
+      | no q ↦ rw (List·getD-eq-default T 0 {n = t} (omega arith)) p
+    ]
+
+pub below-of-nodes : (m : ℕ) (T : List ℕ) → ((t : ℕ) → t < length T → nodeAt T t < m) → nodes-below m T ≡ true
 unfolding nodes-below
 below-of-nodes m [] q = refl
-below-of-nodes m (x ∷ T) q = rw (lt-ltb (nodeOf x) m (q 0)) (below-of-nodes m T (λ t. q (suc t)))
+below-of-nodes m (x ∷ T) q = rw (lt-ltb (nodeOf x) m (q 0 (omega arith))) (below-of-nodes m T (λ t r. q (suc t) (omega arith)))
+
+pub below-mono : (m n : ℕ) (T : List ℕ) → m ≤ n → nodes-below m T ≡ true → nodes-below n T ≡ true
+below-mono m n T q e = below-of-nodes n T (λ t r. omega (arith, node-below m T e t r))
 
 -- ---- who owns a node
 
--- a node that no entry holds keeps the owner that it had
+-- a node that stands in no entry keeps the owner that it had
 owner-kept : (o : List ℕ) (i : ℕ) (T : List ℕ) (n : ℕ) → stands T n ≡ false → getD (ownersFrom o i T) n 0 ≡ getD o n 0
 unfolding ownersFrom stands
 owner-kept o i [] n s = refl

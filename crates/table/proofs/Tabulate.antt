@@ -1,18 +1,32 @@
 -- Laws of `tabulate`, and of filling such a list from its end.
 use mathlib.Core.Path.{_≡_, refl, sym, ap, ap₂, _∙_}
-use mathlib.Core.Bool.{true, false, cond}
-use mathlib.Core.List.{List, [], _∷_}
+use mathlib.Core.Bool.{cond}
+use mathlib.Core.List.{List, [], _∷_, _++_}
 use Prim.Native.Nat.{ℕ, zero, suc, _+_, _≤_, _<_}
+use native.Mathlib.Nat.{add-zero, add-suc, suc-add}
 use native.Mathlib.Omega.{arith}
 use native.Mathlib.Decide.{decLe}
 use borrow.Author.Tests.{le-leb, lt-leb}
-use lib.Dec.{leb, leb·zero}
-use lib.ListN.{set, replicate}
+use lib.Dec.{leb}
+use lib.ListN.{length, getD, set, replicate}
 use Rattle.table.specs.Table.{tabulate}
+
+pub tabulate-length : (i n : ℕ) (f : ℕ → ℕ) → length (tabulate i n f) ≡ n
+tabulate-length i zero f = refl
+tabulate-length i (suc n) f = ap suc (tabulate-length (suc i) n f)
 
 pub tabulate-cong : (i n : ℕ) {f g : ℕ → ℕ} → ((j : ℕ) → i ≤ j → j < i + n → f j ≡ g j) → tabulate i n f ≡ tabulate i n g
 tabulate-cong i zero e = refl
 tabulate-cong i (suc n) e = ap₂ _∷_ (e i (omega arith) (omega arith)) (tabulate-cong (suc i) n (λ j q r. e j (omega arith) (omega arith)))
+
+pub getD-tabulate : (i n : ℕ) (f : ℕ → ℕ) (k : ℕ) → k < n → getD (tabulate i n f) k 0 ≡ f (i + k)
+getD-tabulate i zero f k q = absurd (omega arith)
+getD-tabulate i (suc n) f zero q = ap f (sym (add-zero i))
+getD-tabulate i (suc n) f (suc k) q = getD-tabulate (suc i) n f k (omega arith) ∙ ap f (omega arith)
+
+pub tabulate-last : (i n : ℕ) (f : ℕ → ℕ) → tabulate i (suc n) f ≡ tabulate i n f ++ (f (i + n) ∷ [])
+tabulate-last i zero f = rw add-zero
+tabulate-last i (suc n) f = ap (λ (xs : List ℕ). f i ∷ xs) (rw (add-suc, ← suc-add) (tabulate-last (suc i) n f))
 
 pub tabulate-const : (i n c : ℕ) → tabulate i n (λ j. c) ≡ replicate n c
 tabulate-const i zero c = refl

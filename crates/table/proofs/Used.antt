@@ -4,7 +4,7 @@ use mathlib.Core.Bool.{Bool}
 use mathlib.Core.List.{List, [], _∷_, _++_}
 use Prim.Native.Nat.{ℕ, zero, suc, _+_, _≤_, _<_}
 use native.Mathlib.Omega.{arith}
-use lib.ListN.{length, take, drop, drop-of-length-le, length-drop}
+use lib.ListN.{length, take, drop, drop-of-length-le, length-take, length-drop}
 use lib.Seq.{drop-cons, take-suc, getD-drop}
 use Rattle.tree.specs.Held.{one-if}
 use Rattle.tree.specs.Pages.{sum}
@@ -16,6 +16,10 @@ unfolding tally
 tally-le-length p [] = omega arith
 tally-le-length p (e ∷ T) = omega (arith, one-if-le-one (p (nodeOf e)), tally-le-length p T)
 
+pub tally-take-le : (p : ℕ → Bool) (n : ℕ) (T : List ℕ) → tally p (take n T) ≤ n
+tally-take-le p n T = omega (arith, tally-le-length p (take n T), length-take n T)
+
+-- from an index on
 pub tally-from : (p : ℕ → Bool) (T : List ℕ) (i : ℕ) → i < length T → tally p (drop i T) ≡ one-if (p (nodeAt T i)) + tally p (drop (suc i) T)
 unfolding tally
 tally-from p T i q = rw (drop-cons T i 0 q)

@@ -1,7 +1,7 @@
 -- Who holds which node: the table turned round, from each node to its tenant, and the number held at each level.
-use mathlib.Core.Bool.{Bool, true, false, _&&_, cond}
+use mathlib.Core.Bool.{Bool, true, _&&_, cond}
 use mathlib.Core.List.{List, [], _∷_}
-use Prim.Native.Nat.{ℕ, zero, suc, _-_, _^_}
+use Prim.Native.Nat.{ℕ, suc, _-_, _^_}
 use lib.Dec.{ltb, leb}
 use lib.ListN.{take, drop, set, replicate}
 use Rattle.table.specs.Table.{nodeOf, tally, tabulate}
@@ -34,5 +34,4 @@ abbrev pub countUpTo : ℕ → List ℕ → ℕ → ℕ
 countUpTo h o l = cond (leb l h) (levelCount h o l) 0
 
 unfoldable pub levelCounts : ℕ → List ℕ → List ℕ
-unfolding levelCount
 levelCounts h o = tabulate 0 13 (countUpTo h o)

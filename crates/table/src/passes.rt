@@ -2,16 +2,31 @@
 ghost use mathlib.Core.Path.{_≡_};
 ghost use mathlib.Core.Bool.{true};
 ghost use Prim.Native.Nat.{_≤_};
-ghost use lib.Dec.{ltb};
+ghost use lib.Dec.{leb};
 ghost use lib.ListN.{length};
 ghost use Rattle.tree.specs.Held.{one-if};
+ghost use Rattle.table.specs.Table.{tally};
 ghost use Rattle.table.specs.Owners.{nodes-below, ownersFrom, usedIn, levelCounts};
 
-// One for an entry that is not 0.
-fn one_if_used(entry: u16) -> u16
-    ensures { λ r. ⌜ r ≡ one-if (ltb 0 entry) ⌝ }
+// One for an entry that is at least the limit.
+fn one_if_from(limit: u16, entry: u16) -> u16
+    ensures { λ r. ⌜ r ≡ one-if (leb limit entry) ⌝ }
 {
-    if entry == 0 { 0 } else { 1 }
+    if limit <= entry { 1 } else { 0 }
+}
+
+// How many entries are at least the limit.
+fn count_from(limit: u16, part: &[u16]) -> u16
+    requires { ⌜ length (now part) ≤ 8192 ⌝ }
+    ensures { λ r. ⌜ r ≡ tally (λ n. leb limit n) (now (part .entry)) ⌝ }
+{
+    let mut n: u16 = 0;
+    let mut i = 0;
+    while i < part.len() {
+        n += one_if_from(limit, part[i]);
+        i += 1;
+    }
+    n
 }
 
 // How many entries are not 0.
@@ -19,31 +34,34 @@ pub fn used(part: &[u16]) -> usize
     requires { ⌜ length (now part) ≤ 8192 ⌝ }
     ensures { λ r. ⌜ r ≡ usedIn (now (part .entry)) ⌝ }
 {
-    let mut n: u16 = 0;
-    let mut i = 0;
-    while i < part.len() {
-        n += one_if_used(part[i]);
-        i += 1;
-    }
-    n as usize
+    count_from(1, part) as usize
 }
 
-// Stores each tenant's number and one at its node, in the tenants' order; false as soon as a node is not below the limit.
+// Stores each tenant's number and one at its node, in the tenants' order.
+fn store(table: &[u16], owner: &mut [u16; 8192])
+    requires { ⌜ (length (now table) ≤ 4096) × (nodes-below 8192 (now table) ≡ true) ⌝ }
+    ensures { λ _. ⌜ now (owner .exit) ≡ ownersFrom (now (owner .entry)) 0 (now (table .entry)) ⌝ }
+{
+    let mut tenant = 0;
+    while tenant < table.len() {
+        let node = table[tenant] as usize;
+        owner[node] = (tenant as u16) + 1;
+        tenant += 1;
+    }
+}
+
+// Whether every node is below the limit; if so, each node of the table has its owner stored. That all nodes are tested before the first
+// is stored makes both passes faster.
 pub fn owners(table: &[u16], limit: u16, owner: &mut [u16; 8192]) -> bool
     requires { ⌜ (length (now table) ≤ 4096) × (limit ≤ 8192) ⌝ }
     ensures below { λ r. ⌜ r ≡ nodes-below limit (now (table .entry)) ⌝ }
     ensures stored { λ r. ⌜ (r ≡ true → now (owner .exit) ≡ ownersFrom (now (owner .entry)) 0 (now (table .entry))) ⌝ }
 {
-    let mut i = 0;
-    while i < table.len() {
-        let node = table[i];
-        if limit <= node {
-            return false;
-        }
-        owner[node as usize] = (i as u16) + 1;
-        i += 1;
+    if count_from(limit, table) == 0 {
+        store(table, owner);
+        return true;
     }
-    true
+    false
 }
 
 // How many nodes of each level have an owner; 0 above the height.

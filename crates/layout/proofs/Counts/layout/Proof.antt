@@ -5,7 +5,6 @@ use Prim.Native.Nat.{ℕ, _-_, _≤_}
 use native.Mathlib.Omega.{arith}
 use borrow.Author.Needs.{needs}
 use lib.ListN.{length}
-use Rattle.layout.specs.Layout.{start}
 use Rattle.layout.specs.Climb.{stateOf}
 use Rattle.layout.proofs.Climbing.{start-state, state-full}
 use Rattle.layout.proofs.Turn.{Climbed, climbed-none, climbed-next, placed-fits, lone-fits, climbed-all}
@@ -21,7 +20,7 @@ abbrev μ-loop : tie.MeasureT-loop
 loop-holds : tie.Need-loop-holds Inv-loop μ-loop
 loop-holds c =
     let e : _≡_ {A = ℕ} (length (c .before .args .self .at)) 13 = search needs in
-    (rw (state-full (record { before = 0; level = 65535; down = 0 }) refl) (climbed-none (c .before .args .self .at) e (c .before .pre)), search needs)
+    (climbed-none e (c .before .pre) (state-full _ refl), search needs)
 
 mul-c : tie.Need-mul-c Inv-loop μ-loop
 mul-c c = omega arith

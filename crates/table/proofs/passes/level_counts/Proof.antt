@@ -1,25 +1,21 @@
 -- `table::passes::level_counts` meets its contract. The loop's invariant: the levels from `level` on are counted, and `first` is the first
--- node of the next one down.
-use mathlib.Core.Path.{_≡_, refl, sym, ap, ap₂, _∙_}
+-- node of the level below them.
+use mathlib.Core.Path.{_≡_, ap₂, _∙_}
 use mathlib.Core.List.{List}
 use Prim.Native.Nat.{ℕ, suc, _+_, _-_, _*_, _^_, _≤_, _<_}
 use borrow.Author.Needs.{needs}
 use borrow.Author.Tests.{le-leb, lt-leb}
 use native.Mathlib.Omega.{arith}
-use native.Mathlib.Nat.{pow-suc}
 use denote.Ref.{now}
 use lib.Dec.{ltb}
-use lib.ListN.{length, set, take, drop, length-take}
+use lib.ListN.{set, take, drop, length-take}
 use lib.Pow.{pow-mono}
 use Rattle.table.specs.Table.{tabulate}
 use Rattle.table.specs.Owners.{usedIn, levelCount, levelCounts, countUpTo}
-use Rattle.table.proofs.Used.{tally-le-length}
+use Rattle.table.proofs.Used.{tally-take-le}
 use Rattle.table.proofs.Tabulate.{from, fill-none, fill-more, fill-all}
 use Rattle.table.proofs.passes.level_counts.Statement.{statement}
 use Rattle.table.proofs.passes.level_counts.Tie as tie
-use Rattle.table.proofs.passes.level_counts.Reads as reads
-use Rattle.table.proofs.passes.level_counts.Lts as lts
-use Rattle.table.proofs.passes.used.Reads as used-reads
 
 abbrev Inv-loop : tie.InvT-loop
 Inv-loop height owner nodes counts₀ level₀ first₀ counts level first =
@@ -43,7 +39,7 @@ loop-holds c =
     let none : suc h - (h + 1) ≡ 0 = omega arith in
     (omega arith, rw none, fill-none 13 (h + 1) (countUpTo h o) (λ l q. no-level-above h o l (omega arith)))
 
--- the level above the leaves has 4,096 nodes at most
+-- no level has more than 4,096 nodes
 first-le : (c : tie.In-loop Inv-loop μ-loop) → c .before .loop .first ≤ 4096
 first-le c = rw (c .before .loop .inv .1) (pow-mono {j = 12} (omega arith))
 
@@ -68,13 +64,11 @@ part-used-end c = omega (arith, first-le c)
 used-requires : tie.Need-used-requires Inv-loop μ-loop
 used-requires c κs = simp length-take (omega (arith, first-le (c .before)))
 
-used-le : (n : ℕ) (xs : List ℕ) → usedIn (take n xs) ≤ n
-used-le n xs = omega (arith, tally-le-length (λ n. ltb 0 n) (take n xs), length-take n xs)
-
 cast-counts : tie.Need-cast-counts Inv-loop μ-loop
 cast-counts c =
     let first = c .before .before .before .loop .first in
-    omega (arith, first-le (c .before .before), used-le (2 * first - first) (drop first (now (c .before .before .before .before .before .args .owner))))
+    let o = now (c .before .before .before .before .before .args .owner) in
+    omega (arith, first-le (c .before .before), tally-take-le (λ n. ltb 0 n) (2 * first - first) (drop first o))
 
 mul-counts : tie.Need-mul-counts Inv-loop μ-loop
 mul-counts c = search needs
@@ -85,6 +79,7 @@ array-write-counts c = search needs
 loop-less : tie.Need-loop-less Inv-loop μ-loop
 loop-less c = search needs
 
+-- the part from a level's first node to the next level's is the level
 count-of-part : (h : ℕ) (o : List ℕ) (l first : ℕ) → l ≤ h → first ≡ 2 ^ (h - l) → usedIn (take (2 * first - first) (drop first o)) ≡ countUpTo h o l
 unfolding levelCount
 count-of-part h o l first q e =

@@ -1,0 +1,43 @@
+// What a call's arguments ask for, and the refusals that they alone decide.
+ghost use mathlib.Core.Path.{_≡_};
+ghost use mathlib.Core.Bool.{not};
+ghost use mathlib.Core.List.{[], _∷_};
+ghost use lib.Dec.{eqb, ltb};
+ghost use Rattle.calls.specs.Call.{levelFor};
+ghost use Rattle.calls.specs.Step.{first, check, list-checks};
+
+// The level that a number of pages asks for: the smallest whose block has that many.
+pub fn level_for(pages: u16) -> u16
+    ensures { λ r. ⌜ r ≡ levelFor pages ⌝ }
+{
+    if pages <= 1 {
+        return 0;
+    }
+    tree::depth(pages - 1) + 1
+}
+
+// The number of the first of refusals 1 and 2 that applies, or 0.
+pub fn reserve_refusal(height: u16, length: usize) -> u16
+    ensures { λ r. ⌜ r ≡ first (check 1 (ltb 12 height) ∷ check 2 (not (eqb length 4096)) ∷ []) ⌝ }
+{
+    if 12 < height {
+        return 1;
+    }
+    if length != 4096 {
+        return 2;
+    }
+    0
+}
+
+// The number of the first of refusals 3 and 4 that applies, or 0.
+pub fn list_refusal(entries: usize, tenant: u16) -> u16
+    ensures { λ r. ⌜ r ≡ first (list-checks tenant entries) ⌝ }
+{
+    if entries < 4 {
+        return 3;
+    }
+    if 4095 < tenant {
+        return 4;
+    }
+    0
+}

@@ -1,0 +1,123 @@
+//! What one planning call owes its caller, told from the tables before and after it.
+//!
+//! Nothing here plans: the moves are held against the differences of the tables and against the rules for who stays,
+//! who goes where, in which order, and how many may be moved at all.
+
+use crate::book::level_wanted;
+use crate::definitions::{Node, Tree};
+use crate::planner::{Move, Request};
+use crate::refusal::DONE;
+
+/// The most tenants that a grant may move.
+pub const MOST_FOR_GRANT: usize = 3;
+
+/// The most tenants that a release may move.
+pub const MOST_FOR_RELEASE: usize = 4;
+
+/// A planning call as seen from outside.
+#[derive(Clone, Copy, Debug)]
+pub struct Seen<'a> {
+    pub request: Request,
+    pub before: &'a [Node],
+    pub after: &'a [Node],
+    pub answer: u32,
+    pub node: Node,
+    pub moves: &'a [Move],
+}
+
+/// Says what is wrong with a call, if anything is.
+pub fn audit(tree: Tree, seen: &Seen) -> Result<(), String> {
+    if seen.answer != DONE {
+        ensure!(
+            seen.node == 0 && seen.moves.is_empty(),
+            "a refusal with a node or with moves"
+        );
+        ensure!(seen.before == seen.after, "a refusal that changed the table");
+        return Ok(());
+    }
+    own_entry(seen)?;
+    moves_are_the_differences(tree, seen)?;
+    movers_had_to_move(tree, seen)?;
+    pairing_is_left_to_right(tree, seen)?;
+    let most = match level_wanted(seen.request) {
+        Some(_) => MOST_FOR_GRANT,
+        None => MOST_FOR_RELEASE,
+    };
+    ensure!(seen.moves.len() <= most, "{} tenants are moved", seen.moves.len());
+    Ok(())
+}
+
+/// The caller's own tenant gets, or gives up, just the node that is answered.
+fn own_entry(seen: &Seen) -> Result<(), String> {
+    let tenant = seen.request.tenant() as usize;
+    let entries = (seen.before[tenant], seen.after[tenant]);
+    let expected = match level_wanted(seen.request) {
+        Some(_) => (0, seen.node),
+        None => (seen.node, 0),
+    };
+    ensure!(
+        seen.node != 0 && entries == expected,
+        "tenant {tenant} went {entries:?} with node {} answered",
+        seen.node
+    );
+    Ok(())
+}
+
+/// The list has every other tenant whose node changed, by level and then left to right, and nobody else.
+fn moves_are_the_differences(tree: Tree, seen: &Seen) -> Result<(), String> {
+    let own = seen.request.tenant();
+    let mut differences: Vec<Move> = (0..)
+        .zip(seen.before.iter().zip(seen.after))
+        .filter(|&(tenant, (old, new))| old != new && u32::from(tenant) != own)
+        .map(|(tenant, (&old, &new))| Move { tenant, old, new })
+        .collect();
+    ensure!(
+        differences.iter().all(|step| step.old != 0 && step.new != 0),
+        "somebody else came or went: {differences:?}"
+    );
+    differences.sort_by_key(|step| (tree.level(step.old), step.old));
+    ensure!(
+        seen.moves == differences,
+        "the moves are {:?}, the differences {differences:?}",
+        seen.moves
+    );
+    Ok(())
+}
+
+/// Movers keep their level, and nobody leaves a place that is still needed.
+fn movers_had_to_move(tree: Tree, seen: &Seen) -> Result<(), String> {
+    for step in seen.moves {
+        ensure!(
+            tree.level(step.old) == tree.level(step.new),
+            "{step:?} goes to another level"
+        );
+        ensure!(!seen.after.contains(&step.old), "{step:?} could have stayed");
+    }
+    Ok(())
+}
+
+/// Within a level nobody overtakes anybody, and the newcomer ends up rightmost.
+fn pairing_is_left_to_right(tree: Tree, seen: &Seen) -> Result<(), String> {
+    for pair in seen.moves.windows(2) {
+        let same_level = tree.level(pair[0].old) == tree.level(pair[1].old);
+        ensure!(
+            !same_level || pair[0].new < pair[1].new,
+            "{:?} overtakes {:?}",
+            pair[0],
+            pair[1]
+        );
+    }
+    if level_wanted(seen.request).is_some() {
+        let passed = seen
+            .moves
+            .iter()
+            .any(|step| tree.level(step.new) == tree.level(seen.node) && step.new > seen.node);
+        ensure!(
+            !passed,
+            "the newcomer on {} is not the last of {:?}",
+            seen.node,
+            seen.moves
+        );
+    }
+    Ok(())
+}

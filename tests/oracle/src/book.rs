@@ -1,0 +1,157 @@
+//! The book: who holds what, kept from the calls and their numbers alone.
+//!
+//! It never plans. From what it has written down it can still tell the answer of every call of a history and which
+//! places must be occupied, so it stands as a third opinion beside two planners.
+
+use crate::definitions::{is_legal, Counts, Node, Tree};
+use crate::lifting;
+use crate::planner::{level_for_pages, Request, FEWEST_ENTRIES, TENANTS};
+use crate::refusal::{Refusal, DONE};
+
+/// Up to this height the places are also judged by the bare definitions.
+const SMALL: u32 = 5;
+
+#[derive(Clone, Debug)]
+pub struct Book {
+    tree: Tree,
+    levels: Vec<Option<u32>>,
+    counts: Counts,
+}
+
+impl Book {
+    /// The book after an opening.
+    pub fn new(tree: Tree) -> Self {
+        Book {
+            tree,
+            levels: vec![None; TENANTS],
+            counts: Counts::default(),
+        }
+    }
+
+    /// The book of somebody who was always there, for calls that begin on a table and not with an opening.
+    pub fn of_table(tree: Tree, table: &[Node]) -> Self {
+        let mut book = Book::new(tree);
+        for (tenant, &node) in (0..).zip(table).filter(|&(_, &node)| node != 0) {
+            book.write_down(tenant, tree.level(node));
+        }
+        book
+    }
+
+    pub fn tree(&self) -> Tree {
+        self.tree
+    }
+
+    pub fn level_of(&self, tenant: u32) -> Option<u32> {
+        self.levels[tenant as usize]
+    }
+
+    /// Every tenant that holds a block.
+    pub fn holders(&self) -> Vec<u32> {
+        (0..TENANTS as u32)
+            .filter(|&tenant| self.level_of(tenant).is_some())
+            .collect()
+    }
+
+    /// The held sizes.
+    pub fn counts(&self) -> &Counts {
+        &self.counts
+    }
+
+    /// The pages that nobody holds.
+    pub fn room(&self) -> u32 {
+        self.tree.pages_in_all() - self.tree.pages_taken(&self.counts)
+    }
+
+    /// The number that a call of this history has to answer.
+    pub fn answer(&self, request: Request, entries: usize) -> u32 {
+        let refusal = self
+            .why_not_valid(request, entries)
+            .or_else(|| self.why_not_granted(request));
+        refusal.map_or(DONE, Refusal::number)
+    }
+
+    fn why_not_valid(&self, request: Request, entries: usize) -> Option<Refusal> {
+        let wrong_size = match request {
+            Request::GrantLevel { level, .. } if level > self.tree.height() => Some(Refusal::Level),
+            Request::GrantPages { pages, .. } if pages > self.tree.pages_in_all() => Some(Refusal::Pages),
+            _ => None,
+        };
+        let conditions = [
+            (entries < FEWEST_ENTRIES).then_some(Refusal::MoveEntries),
+            (request.tenant() >= TENANTS as u32).then_some(Refusal::Tenant),
+            wrong_size,
+        ];
+        conditions.into_iter().flatten().next()
+    }
+
+    /// Why a valid request or release is still turned down.
+    fn why_not_granted(&self, request: Request) -> Option<Refusal> {
+        let holds = self.level_of(request.tenant()).is_some();
+        match level_wanted(request) {
+            None => (!holds).then_some(Refusal::HoldsNothing),
+            Some(_) if holds => Some(Refusal::HoldsAlready),
+            Some(level) => (1 << level > self.room()).then_some(Refusal::NoRoom),
+        }
+    }
+
+    /// Writes down what a call's number means.
+    pub fn enter(&mut self, request: Request, answer: u32) {
+        if answer != DONE {
+            return;
+        }
+        match level_wanted(request) {
+            Some(level) => self.write_down(request.tenant(), level),
+            None => self.strike_out(request.tenant()),
+        }
+    }
+
+    fn write_down(&mut self, tenant: u32, level: u32) {
+        self.levels[tenant as usize] = Some(level);
+        self.counts[level as usize] += 1;
+    }
+
+    fn strike_out(&mut self, tenant: u32) {
+        let level = self.levels[tenant as usize].take().expect("a level to strike out");
+        self.counts[level as usize] -= 1;
+    }
+
+    /// Whether a table shows what the book says: everybody's level, and the only safe places for so many blocks.
+    pub fn audit(&self, table: &[Node]) -> Result<(), String> {
+        for (tenant, (&node, &level)) in table.iter().zip(&self.levels).enumerate() {
+            let shown = (node != 0).then(|| self.tree.level(node));
+            ensure!(
+                shown == level,
+                "tenant {tenant} is on node {node}, the book has level {level:?}"
+            );
+        }
+        let held = occupied(table);
+        let safe = lifting::layout(self.tree, &self.counts);
+        ensure!(
+            safe.as_ref() == Some(&held),
+            "the places are {held:?}, the safe ones {safe:?}"
+        );
+        if self.tree.height() <= SMALL {
+            ensure!(
+                is_legal(&held) && self.tree.is_safe(&held),
+                "the places {held:?} are not safe"
+            );
+        }
+        Ok(())
+    }
+}
+
+/// The level that a grant asks for.
+pub fn level_wanted(request: Request) -> Option<u32> {
+    match request {
+        Request::GrantLevel { level, .. } => Some(level),
+        Request::GrantPages { pages, .. } => Some(level_for_pages(pages)),
+        Request::Release { .. } => None,
+    }
+}
+
+/// The nodes in a table, ascending.
+pub fn occupied(table: &[Node]) -> Vec<Node> {
+    let mut held: Vec<Node> = table.iter().copied().filter(|&node| node != 0).collect();
+    held.sort_unstable();
+    held
+}

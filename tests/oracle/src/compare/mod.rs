@@ -1,0 +1,147 @@
+//! The driver: asks a planner under test and the second planner the same things and compares every byte.
+//!
+//! A planner passes a part if all of it comes out the same. Everything made up on the way follows from one seed, and a
+//! failing history is shortened before it is shown.
+
+mod calls;
+mod edges;
+mod journals;
+mod lent;
+mod maps;
+
+use std::error::Error;
+use std::io::{self, Write};
+
+use crate::random::Random;
+use crate::subject::Subject;
+
+pub use calls::{same_history, Failure};
+
+/// How much is tried, and from which seed.
+#[derive(Clone, Debug)]
+pub struct Amounts {
+    pub seed: u64,
+    /// Up to this height every counts vector is tried with every grant and release.
+    pub tallest_for_all_counts: u32,
+    /// Calls in histories that begin with an opening.
+    pub calls_in_histories: usize,
+    /// Reserves that are full or nearly so from the start, each with a few calls.
+    pub full_reserves: usize,
+    pub damaged_tables: usize,
+    pub maps: usize,
+    pub journals: usize,
+    /// Pairs of histories that end in the same holdings.
+    pub pairs: usize,
+}
+
+impl Amounts {
+    /// A few seconds' worth.
+    pub fn quick(seed: u64) -> Self {
+        Amounts {
+            seed,
+            tallest_for_all_counts: 4,
+            calls_in_histories: 12_000,
+            full_reserves: 800,
+            damaged_tables: 1_500,
+            maps: 300,
+            journals: 500,
+            pairs: 60,
+        }
+    }
+
+    /// What a change has to withstand.
+    pub fn full(seed: u64) -> Self {
+        Amounts {
+            seed,
+            tallest_for_all_counts: 5,
+            calls_in_histories: 200_000,
+            full_reserves: 6_000,
+            damaged_tables: 20_000,
+            maps: 3_000,
+            journals: 3_000,
+            pairs: 600,
+        }
+    }
+
+    /// So many times as much of everything that is drawn at random.
+    pub fn times(mut self, factor: usize) -> Self {
+        for amount in [
+            &mut self.calls_in_histories,
+            &mut self.full_reserves,
+            &mut self.damaged_tables,
+            &mut self.maps,
+            &mut self.journals,
+            &mut self.pairs,
+        ] {
+            *amount *= factor;
+        }
+        self
+    }
+}
+
+/// How many parts came out the same, and how many did not.
+#[derive(Clone, Copy, Debug, Default, PartialEq, Eq)]
+pub struct Tally {
+    pub passed: usize,
+    pub failed: usize,
+}
+
+/// One part of the comparison. It gives the number of comparisons, or what it found.
+type Part = fn(&mut dyn Subject, &Amounts, &mut Random) -> Result<usize, String>;
+
+const PARTS: [(&str, Part); 9] = [
+    ("edges of the arguments", edges::edges),
+    ("every counts vector", calls::every_counts),
+    ("histories", calls::histories),
+    ("full reserves", calls::full_reserves),
+    ("damaged tables", calls::damaged_tables),
+    ("pairs of histories", calls::pairs),
+    ("maps", maps::maps),
+    ("journal records", journals::records),
+    ("journals", journals::journals),
+];
+
+/// The random numbers of one part, the same whichever parts ran before.
+fn random_for(amounts: &Amounts, part: usize) -> Random {
+    Random::new(amounts.seed.wrapping_add(part as u64))
+}
+
+/// Runs all parts and reports on each in a line, or with what it found.
+pub fn run(subject: &mut dyn Subject, amounts: &Amounts, report: &mut dyn Write) -> io::Result<Tally> {
+    let mut tally = Tally::default();
+    for (place, (name, part)) in PARTS.into_iter().enumerate() {
+        match part(subject, amounts, &mut random_for(amounts, place)) {
+            Ok(comparisons) => {
+                tally.passed += 1;
+                writeln!(report, "{name}: {comparisons} comparisons, seed {}", amounts.seed)?;
+            }
+            Err(finding) => {
+                tally.failed += 1;
+                writeln!(report, "{name}: different, seed {}\n{finding}", amounts.seed)?;
+            }
+        }
+    }
+    Ok(tally)
+}
+
+/// The driver as a command: `[SEED [TIMES]]` are its arguments, and its last line is the tally.
+pub fn command(subject: &mut dyn Subject, arguments: &[&str]) -> Result<Tally, Box<dyn Error>> {
+    let seed = arguments.first().map_or(Ok(1), |seed| seed.parse())?;
+    let times = arguments.get(1).map_or(Ok(1), |times| times.parse())?;
+    let tally = run(subject, &Amounts::full(seed).times(times), &mut io::stdout())?;
+    println!("{} passed, {} failed", tally.passed, tally.failed);
+    Ok(tally)
+}
+
+/// The first of the named parts that does not come out the same, and what it found.
+pub fn first_finding(subject: &mut dyn Subject, amounts: &Amounts, names: &[&str]) -> Option<(&'static str, String)> {
+    let named = |&(_, (name, _)): &(usize, (&str, Part))| names.contains(&name);
+    PARTS
+        .into_iter()
+        .enumerate()
+        .filter(named)
+        .find_map(|(place, (name, part))| {
+            let finding = part(subject, amounts, &mut random_for(amounts, place)).err()?;
+            Some((name, finding))
+        })
+}

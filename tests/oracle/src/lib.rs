@@ -1,0 +1,39 @@
+//! A second planner for the page reserve, and the driver that holds another planner against it.
+//!
+//! Everything here is decided from the papers alone and by the slowest road that is still bearable, because its only
+//! use is to be believed when it disagrees with the planner that ships:
+//!
+//! - [`definitions`] has the words about sets of nodes (legal, dense, safe, ...) exactly as they are defined, and for
+//!   small trees every set there is;
+//! - [`lifting`] builds the safe layout of any counts on a row of labelled pages, by the lifting rule;
+//! - [`planner`] has the calls with their refusals, pairing and moves, [`page_map`] the map, [`journal`] and
+//!   [`listing`] the journal;
+//! - [`book`] and [`audit`] state what every planner owes its callers without planning anything themselves;
+//! - [`subject`] is the door through which a planner under test is reached, and [`compare`] knocks on it, with what
+//!   [`generate`] makes up from the seeds of [`random`], and with [`shrink`] to shorten what fails.
+
+#![forbid(unsafe_code)]
+
+/// Ends a check with a finding unless a condition holds.
+macro_rules! ensure {
+    ($holds:expr, $($finding:tt)+) => {
+        if !$holds {
+            return Err(format!($($finding)+));
+        }
+    };
+}
+
+pub mod audit;
+pub mod book;
+pub mod compare;
+pub mod definitions;
+pub mod generate;
+pub mod journal;
+pub mod lifting;
+pub mod listing;
+pub mod page_map;
+pub mod planner;
+pub mod random;
+pub mod refusal;
+pub mod shrink;
+pub mod subject;

@@ -1,0 +1,240 @@
+//! Opening, both grants and the release, on a table of tenants.
+//!
+//! A call is a function: it gets the table as it is and hands back the table as it will be. A refused call hands back
+//! the table it got.
+
+use crate::definitions::{Counts, Node, Tree, TALLEST};
+use crate::lifting;
+use crate::refusal::{self, Refusal};
+
+/// How many tenants there are, and so the only length a table may have.
+pub const TENANTS: usize = 4096;
+
+/// The fewest entries a lent list of moves may have.
+pub const FEWEST_ENTRIES: usize = 4;
+
+/// What a tenant wants.
+#[derive(Clone, Copy, Debug, PartialEq, Eq)]
+pub enum Request {
+    GrantLevel { tenant: u32, level: u32 },
+    GrantPages { tenant: u32, pages: u32 },
+    Release { tenant: u32 },
+}
+
+impl Request {
+    pub fn tenant(self) -> u32 {
+        match self {
+            Request::GrantLevel { tenant, .. } | Request::GrantPages { tenant, .. } | Request::Release { tenant } => {
+                tenant
+            }
+        }
+    }
+}
+
+/// What a planning call is lent: the table, and room for so many moves.
+#[derive(Clone, Copy, Debug)]
+pub struct Lent<'a> {
+    pub height: u32,
+    pub table: &'a [Node],
+    pub entries: usize,
+}
+
+/// A tenant that has to go from one node to another.
+#[derive(Clone, Copy, Debug, PartialEq, Eq)]
+pub struct Move {
+    pub tenant: u16,
+    pub old: Node,
+    pub new: Node,
+}
+
+/// Everything there is to see after a call.
+#[derive(Clone, Debug, PartialEq, Eq)]
+pub struct Outcome {
+    pub answer: u32,
+    pub node: Node,
+    pub moves: Vec<Move>,
+    pub table: Vec<Node>,
+}
+
+/// What an accepted call does.
+struct Plan {
+    node: Node,
+    moves: Vec<Move>,
+    table: Vec<Node>,
+}
+
+/// Starts a reserve with nobody in it.
+pub fn open(height: u32, table: &[Node]) -> Outcome {
+    let plan = check_reserve(height, table).map(|_| Plan {
+        node: 0,
+        moves: Vec::new(),
+        table: vec![0; TENANTS],
+    });
+    outcome(table, plan)
+}
+
+/// Grants or releases.
+pub fn call(lent: Lent, request: Request) -> Outcome {
+    outcome(lent.table, plan(lent, request))
+}
+
+/// The level of the smallest block with room for so many pages. Without a size given that is a single page.
+pub fn level_for_pages(pages: u32) -> u32 {
+    (0..)
+        .find(|&level| 1u64 << level >= u64::from(pages))
+        .expect("some power of two is large enough")
+}
+
+fn outcome(before: &[Node], result: Result<Plan, Refusal>) -> Outcome {
+    let answer = refusal::number(&result);
+    let plan = result.unwrap_or_else(|_| Plan {
+        node: 0,
+        moves: Vec::new(),
+        table: before.to_vec(),
+    });
+    Outcome {
+        answer,
+        node: plan.node,
+        moves: plan.moves,
+        table: plan.table,
+    }
+}
+
+/// The checks every call on a table begins with, opening included.
+pub(crate) fn check_reserve(height: u32, table: &[Node]) -> Result<Tree, Refusal> {
+    if height > TALLEST {
+        return Err(Refusal::Height);
+    }
+    if table.len() != TENANTS {
+        return Err(Refusal::TableLength);
+    }
+    Ok(Tree::new(height))
+}
+
+/// The rest of the arguments, in the order of the numbers.
+fn check_request(tree: Tree, entries: usize, request: Request) -> Result<(), Refusal> {
+    if entries < FEWEST_ENTRIES {
+        return Err(Refusal::MoveEntries);
+    }
+    if request.tenant() as usize >= TENANTS {
+        return Err(Refusal::Tenant);
+    }
+    match request {
+        Request::GrantLevel { level, .. } if level > tree.height() => Err(Refusal::Level),
+        Request::GrantPages { pages, .. } if pages > tree.pages_in_all() => Err(Refusal::Pages),
+        _ => Ok(()),
+    }
+}
+
+/// Whether the table holds the safe layout of its own counts, and if so which counts these are. A node twice cannot
+/// slip through: a layout of as many blocks has each node once.
+pub(crate) fn check_table(tree: Tree, table: &[Node]) -> Result<Counts, Refusal> {
+    let mut held: Vec<Node> = table.iter().copied().filter(|&node| node != 0).collect();
+    if held.iter().any(|&node| node > tree.last_node()) {
+        return Err(Refusal::Table);
+    }
+    held.sort_unstable();
+    let counts = tree.counts(&held);
+    match lifting::layout(tree, &counts) {
+        Some(safe) if safe == held => Ok(counts),
+        _ => Err(Refusal::Table),
+    }
+}
+
+fn plan(lent: Lent, request: Request) -> Result<Plan, Refusal> {
+    let tree = check_reserve(lent.height, lent.table)?;
+    check_request(tree, lent.entries, request)?;
+    let counts = check_table(tree, lent.table)?;
+    let tenant = request.tenant() as usize;
+    match request {
+        Request::GrantLevel { level, .. } => grant(tree, lent.table, counts, tenant, level),
+        Request::GrantPages { pages, .. } => grant(tree, lent.table, counts, tenant, level_for_pages(pages)),
+        Request::Release { .. } => release(tree, lent.table, counts, tenant),
+    }
+}
+
+fn grant(tree: Tree, table: &[Node], mut counts: Counts, tenant: usize, level: u32) -> Result<Plan, Refusal> {
+    if table[tenant] != 0 {
+        return Err(Refusal::HoldsAlready);
+    }
+    counts[level as usize] += 1;
+    if tree.pages_taken(&counts) > tree.pages_in_all() {
+        return Err(Refusal::NoRoom);
+    }
+    let mut settled = settle(tree, table.to_vec(), &counts);
+    // The movers of the newcomer's level have taken their places; the one left over is the last.
+    let mut left_over = settled.vacant.iter().copied();
+    let node = left_over.next().expect("a place for the newcomer");
+    assert!(left_over.next().is_none() && tree.level(node) == level);
+    settled.table[tenant] = node;
+    Ok(Plan {
+        node,
+        moves: settled.moves,
+        table: settled.table,
+    })
+}
+
+fn release(tree: Tree, table: &[Node], mut counts: Counts, tenant: usize) -> Result<Plan, Refusal> {
+    let node = table[tenant];
+    if node == 0 {
+        return Err(Refusal::HoldsNothing);
+    }
+    counts[tree.level(node) as usize] -= 1;
+    let mut remaining = table.to_vec();
+    remaining[tenant] = 0;
+    let settled = settle(tree, remaining, &counts);
+    assert!(settled.vacant.is_empty());
+    Ok(Plan {
+        node,
+        moves: settled.moves,
+        table: settled.table,
+    })
+}
+
+/// The tenants of a table after they have gone to their places in a new layout.
+struct Settled {
+    table: Vec<Node>,
+    moves: Vec<Move>,
+    /// The places that nobody was there to take, ascending.
+    vacant: Vec<Node>,
+}
+
+/// Brings the tenants of a table into the safe layout of some counts. Nobody leaves a place that the layout has; at each
+/// level the remaining tenants and the remaining places are matched in order from the left.
+fn settle(tree: Tree, mut table: Vec<Node>, counts: &Counts) -> Settled {
+    let layout = lifting::layout(tree, counts).expect("a layout for counts whose pages fit");
+    let wanted = |node: Node| layout.binary_search(&node).is_ok();
+
+    let mut stayed_on = vec![false; usize::from(tree.last_node()) + 1];
+    let mut movers: Vec<(Node, usize)> = Vec::new();
+    for (tenant, &node) in table.iter().enumerate().filter(|&(_, &node)| node != 0) {
+        if wanted(node) {
+            stayed_on[usize::from(node)] = true;
+        } else {
+            movers.push((node, tenant));
+        }
+    }
+    movers.sort_unstable();
+    let places: Vec<Node> = layout
+        .iter()
+        .copied()
+        .filter(|&node| !stayed_on[usize::from(node)])
+        .collect();
+
+    let mut moves = Vec::new();
+    let mut vacant = Vec::new();
+    for level in tree.levels() {
+        let mut places_here = places.iter().copied().filter(|&node| tree.level(node) == level);
+        for &(old, tenant) in movers.iter().filter(|&&(old, _)| tree.level(old) == level) {
+            let new = places_here.next().expect("a place for every mover");
+            table[tenant] = new;
+            moves.push(Move {
+                tenant: tenant as u16,
+                old,
+                new,
+            });
+        }
+        vacant.extend(places_here);
+    }
+    Settled { table, moves, vacant }
+}

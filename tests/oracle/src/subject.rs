@@ -1,0 +1,197 @@
+//! The door to a planner under test.
+//!
+//! [`Subject`] has one method for everything the library can be asked, over numbers and byte images as on the C side.
+//! To put a library behind it, declare its exported functions in an `extern "C"` block and write the methods as calls
+//! of them: each passes the slices on as pointer and length and turns the returned numbers into [`Reply`], [`Count`] or
+//! [`Reading`]. Nothing may be checked or repaired on the way. If a parameter is narrower than the `u32` here, say so
+//! in [`Subject::reach`], so that no number is handed over that the door cannot take.
+
+use crate::definitions::Node;
+use crate::journal::{self, Reading, Record};
+use crate::listing;
+use crate::page_map;
+use crate::planner::{self, Lent, Move, Request, TENANTS};
+use crate::refusal::{self, DONE};
+
+/// The only length of a table's image.
+pub const TABLE_BYTES: usize = 2 * TENANTS;
+
+/// The length of one move's image.
+pub const MOVE_BYTES: usize = 6;
+
+/// What a planning call reports besides what it writes.
+#[derive(Clone, Copy, Debug, PartialEq, Eq)]
+pub struct Reply {
+    pub answer: u32,
+    pub node: u32,
+    /// How many moves stand in the lent list.
+    pub moves: u32,
+}
+
+/// What counting a map reports.
+#[derive(Clone, Copy, Debug, PartialEq, Eq)]
+pub struct Count {
+    pub answer: u32,
+    pub pages: u32,
+}
+
+/// The largest numbers that can be handed through a door.
+#[derive(Clone, Copy, Debug)]
+pub struct Reach {
+    pub height: u32,
+    pub tenant: u32,
+    pub level: u32,
+    pub pages: u32,
+}
+
+/// A planner under test, with everything that the library and its listing program offer.
+pub trait Subject {
+    /// How large the numbers may be that the other methods are given.
+    fn reach(&self) -> Reach {
+        Reach {
+            height: u32::MAX,
+            tenant: u32::MAX,
+            level: u32::MAX,
+            pages: u16::MAX.into(),
+        }
+    }
+
+    /// Opens a reserve and gives the number answered.
+    fn open(&mut self, height: u32, table: &mut [u8]) -> u32;
+
+    fn grant_level(&mut self, height: u32, table: &mut [u8], moves: &mut [u8], tenant: u32, level: u32) -> Reply;
+
+    fn grant_pages(&mut self, height: u32, table: &mut [u8], moves: &mut [u8], tenant: u32, pages: u32) -> Reply;
+
+    fn release(&mut self, height: u32, table: &mut [u8], moves: &mut [u8], tenant: u32) -> Reply;
+
+    /// Draws the page map and gives the number answered.
+    fn draw(&mut self, height: u32, table: &[u8], map: &mut [u8]) -> u32;
+
+    fn count(&mut self, map: &[u8]) -> Count;
+
+    /// Reads what stands at an offset of a journal.
+    fn read(&mut self, journal: &[u8], offset: usize) -> Reading;
+
+    /// Writes a record over the first lent bytes and gives the number answered.
+    fn write(&mut self, record: &Record, lent: &mut [u8]) -> u32;
+
+    /// What the listing program writes for a journal on its standard input.
+    fn list(&mut self, journal: &[u8]) -> Vec<u8>;
+}
+
+/// Hands a request to the method it belongs to.
+pub fn ask(subject: &mut dyn Subject, height: u32, table: &mut [u8], moves: &mut [u8], request: Request) -> Reply {
+    match request {
+        Request::GrantLevel { tenant, level } => subject.grant_level(height, table, moves, tenant, level),
+        Request::GrantPages { tenant, pages } => subject.grant_pages(height, table, moves, tenant, pages),
+        Request::Release { tenant } => subject.release(height, table, moves, tenant),
+    }
+}
+
+/// A table's image.
+pub fn table_image(table: &[Node]) -> Vec<u8> {
+    table.iter().flat_map(|node| node.to_le_bytes()).collect()
+}
+
+/// The table that an image stands for. An image of another length stands for none; it becomes a table without
+/// entries, which no call takes either.
+pub fn table_from(image: &[u8]) -> Vec<Node> {
+    if image.len() != TABLE_BYTES {
+        return Vec::new();
+    }
+    let word = |pair: &[u8]| Node::from_le_bytes([pair[0], pair[1]]);
+    image.chunks_exact(2).map(word).collect()
+}
+
+/// The first so many moves of a list's image; fewer if the list is not that long.
+pub fn moves_from(image: &[u8], number: u32) -> Vec<Move> {
+    let word = |bytes: &[u8], place: usize| u16::from_le_bytes([bytes[place], bytes[place + 1]]);
+    let entries = image.chunks_exact(MOVE_BYTES).take(number as usize);
+    entries
+        .map(|entry| Move {
+            tenant: word(entry, 0),
+            old: word(entry, 2),
+            new: word(entry, 4),
+        })
+        .collect()
+}
+
+/// Writes moves to the front of a list's image.
+pub fn put_moves(moves: &[Move], image: &mut [u8]) {
+    for (step, entry) in moves.iter().zip(image.chunks_exact_mut(MOVE_BYTES)) {
+        let words = [step.tenant, step.old, step.new];
+        let bytes: Vec<u8> = words.iter().flat_map(|word| word.to_le_bytes()).collect();
+        entry.copy_from_slice(&bytes);
+    }
+}
+
+/// The second planner behind the same door as the planner it is compared with.
+#[derive(Clone, Copy, Debug, Default)]
+pub struct Oracle;
+
+impl Oracle {
+    fn plan(height: u32, table: &mut [u8], moves: &mut [u8], request: Request) -> Reply {
+        let lent = Lent {
+            height,
+            table: &table_from(table),
+            entries: moves.len() / MOVE_BYTES,
+        };
+        let outcome = planner::call(lent, request);
+        if outcome.answer == DONE {
+            table.copy_from_slice(&table_image(&outcome.table));
+            put_moves(&outcome.moves, moves);
+        }
+        Reply {
+            answer: outcome.answer,
+            node: outcome.node.into(),
+            moves: outcome.moves.len() as u32,
+        }
+    }
+}
+
+impl Subject for Oracle {
+    fn open(&mut self, height: u32, table: &mut [u8]) -> u32 {
+        let outcome = planner::open(height, &table_from(table));
+        if outcome.answer == DONE {
+            table.copy_from_slice(&table_image(&outcome.table));
+        }
+        outcome.answer
+    }
+
+    fn grant_level(&mut self, height: u32, table: &mut [u8], moves: &mut [u8], tenant: u32, level: u32) -> Reply {
+        Oracle::plan(height, table, moves, Request::GrantLevel { tenant, level })
+    }
+
+    fn grant_pages(&mut self, height: u32, table: &mut [u8], moves: &mut [u8], tenant: u32, pages: u32) -> Reply {
+        Oracle::plan(height, table, moves, Request::GrantPages { tenant, pages })
+    }
+
+    fn release(&mut self, height: u32, table: &mut [u8], moves: &mut [u8], tenant: u32) -> Reply {
+        Oracle::plan(height, table, moves, Request::Release { tenant })
+    }
+
+    fn draw(&mut self, height: u32, table: &[u8], map: &mut [u8]) -> u32 {
+        refusal::number(&page_map::draw(height, &table_from(table), map))
+    }
+
+    fn count(&mut self, map: &[u8]) -> Count {
+        let result = page_map::count(map);
+        Count {
+            answer: refusal::number(&result),
+            pages: result.unwrap_or(0),
+        }
+    }
+
+    fn read(&mut self, journal: &[u8], offset: usize) -> Reading {
+        journal::read(journal, offset)
+    }
+
+    fn write(&mut self, record: &Record, lent: &mut [u8]) -> u32 {
+        refusal::number(&journal::write(record, lent))
+    }
+
+    fn list(&mut self, journal: &[u8]) -> Vec<u8> {
+        listing::list(journal)
+    }
+}

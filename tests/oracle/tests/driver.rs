@@ -1,0 +1,162 @@
+//! The driver finds nothing where nothing is wrong, and finds every planted mistake.
+
+mod faulty;
+
+use faulty::{Fault, Faulty, Narrow, ThirdOfItsSize};
+use oracle::compare::{first_finding, run, same_history, Amounts, Tally};
+use oracle::generate::{history, Call};
+use oracle::planner::Request;
+use oracle::random::Random;
+use oracle::shrink::shorten;
+use oracle::subject::{Oracle, Subject};
+
+#[test]
+fn the_second_planner_agrees_with_itself() {
+    let mut report = Vec::new();
+    let tally = run(&mut Oracle, &Amounts::quick(21), &mut report).expect("a report in memory");
+    let report = String::from_utf8(report).expect("a report is plain text");
+    assert_eq!(tally, Tally { passed: 9, failed: 0 }, "{report}");
+    assert!(
+        report.lines().all(|line| line.ends_with("comparisons, seed 21")),
+        "{report}"
+    );
+}
+
+/// Each mistake is found by one of the named parts.
+fn assert_found(faults: &[Fault], parts: &[&str]) {
+    for &fault in faults {
+        let (part, finding) = first_finding(&mut Faulty(fault), &Amounts::quick(22), parts)
+            .unwrap_or_else(|| panic!("{fault:?} was not found"));
+        println!("{fault:?}: {part}\n{finding}\n");
+    }
+}
+
+#[test]
+fn wrong_places_are_found() {
+    assert_found(&Fault::PLACES, &["every counts vector"]);
+}
+
+#[test]
+fn wrong_reports_are_found() {
+    assert_found(&Fault::REPORTS, &["every counts vector"]);
+}
+
+#[test]
+fn wrong_refusals_are_found() {
+    let parts = [
+        "edges of the arguments",
+        "every counts vector",
+        "histories",
+        "damaged tables",
+    ];
+    assert_found(&Fault::REFUSALS, &parts);
+}
+
+#[test]
+fn wrong_maps_are_found() {
+    assert_found(&Fault::MAPS, &["maps"]);
+}
+
+#[test]
+fn wrong_readings_and_writings_are_found() {
+    assert_found(&Fault::JOURNALS, &["journal records", "journals"]);
+}
+
+#[test]
+fn wrong_listings_are_found() {
+    assert_found(&Fault::LISTINGS, &["journals"]);
+}
+
+/// Histories alone are enough as well, without the start from a prepared table.
+#[test]
+fn wrong_places_are_found_in_histories() {
+    assert_found(&Fault::PLACES, &["histories"]);
+}
+
+/// The driver respects how far a door reaches.
+#[test]
+fn no_number_is_handed_over_that_the_door_cannot_take() {
+    let amounts = Amounts {
+        tallest_for_all_counts: 2,
+        calls_in_histories: 4_000,
+        full_reserves: 200,
+        ..Amounts::quick(25)
+    };
+    let tally = run(&mut Narrow, &amounts, &mut Vec::new()).expect("a report in memory");
+    assert_eq!(tally, Tally { passed: 9, failed: 0 });
+}
+
+#[test]
+fn shortening_leaves_only_what_is_needed() {
+    let numbers: Vec<u32> = (0..100).collect();
+    let mut tried = 0;
+    let short = shorten(&numbers, |rest| {
+        tried += 1;
+        rest.contains(&3) && rest.contains(&77)
+    });
+    assert_eq!(short, [3, 77]);
+    assert!(tried < 100, "{tried} tries");
+    assert_eq!(shorten(&numbers, |_| true), []);
+}
+
+/// Calls that only fail together are all kept.
+#[test]
+fn shortening_never_loses_the_failure() {
+    let numbers: Vec<u32> = (0..40).collect();
+    let fails = |rest: &[u32]| rest.iter().sum::<u32>() >= 300;
+    let short = shorten(&numbers, fails);
+    assert!(fails(&short));
+    for left_out in 0..short.len() {
+        let mut less = short.clone();
+        less.remove(left_out);
+        assert!(!fails(&less));
+    }
+}
+
+/// A mistake that takes three calls to come out is shown in three calls.
+#[test]
+fn a_failing_history_is_shown_short() {
+    let mut random = Random::new(23);
+    let reach = Oracle.reach();
+    let (long, _) = (0..)
+        .map(|_| history(&mut random, reach, 6, 200))
+        .find(|(history, _)| same_history(&mut ThirdOfItsSize, history).is_err_and(|failure| failure.call > 20))
+        .expect("a history that fails late");
+    let short = shorten(&long.calls, |calls| {
+        let mut history = long.clone();
+        history.calls = calls.to_vec();
+        same_history(&mut ThirdOfItsSize, &history).is_err()
+    });
+    assert_eq!(short.len(), 3, "{short:?}");
+    let is_grant = |call: &Call| !matches!(call.request, Request::Release { .. });
+    assert!(short.iter().all(is_grant), "{short:?}");
+}
+
+#[test]
+fn a_finding_names_the_seed_and_the_calls() {
+    let mut report = Vec::new();
+    let amounts = Amounts {
+        tallest_for_all_counts: 0,
+        ..Amounts::quick(24)
+    };
+    let tally = run(&mut ThirdOfItsSize, &amounts, &mut report).expect("a report in memory");
+    let report = String::from_utf8(report).expect("a report is plain text");
+    assert!(tally.failed >= 2, "{report}");
+    let part = report
+        .split("histories: different, seed 24\n")
+        .nth(1)
+        .expect("a finding");
+    let mut lines = part.lines();
+    // Two pages hold no three blocks, so height 2 is the smallest tree for it.
+    assert_eq!(lines.next(), Some("  open height 2"), "{report}");
+    assert!(
+        lines.by_ref().take(3).all(|line| line.starts_with("  grant tenant ")),
+        "{report}"
+    );
+    assert!(
+        lines
+            .next()
+            .is_some_and(|line| line.starts_with("  call 3: the reply is ")),
+        "{report}"
+    );
+}

@@ -1,0 +1,696 @@
+//! Planners that are right but for one mistake each, to see whether the driver notices.
+
+use oracle::book::level_wanted;
+use oracle::definitions::{is_free, is_legal, is_under, Counts, Node, Tree};
+use oracle::journal::{Reading, Record, LONGEST};
+use oracle::page_map::MAP_BYTES;
+use oracle::planner::{Move, Request};
+use oracle::refusal::{Refusal, DONE};
+use oracle::subject::{
+    ask, moves_from, put_moves, table_from, table_image, Count, Oracle, Reach, Reply, Subject, MOVE_BYTES, TABLE_BYTES,
+};
+
+/// The one mistake.
+#[derive(Clone, Copy, Debug, PartialEq, Eq)]
+pub enum Fault {
+    // Where everybody goes.
+    MoversPairedByTenant,
+    NewcomerPairedByTenant,
+    NewcomerTakesTheFirstPlace,
+    NobodyStays,
+    LeftmostGapWithoutSettling,
+    FirstGrantWellLaterOnesInTheGap,
+    SortedBySize,
+    HalfEmptyTakenForMeager,
+    NodeOneForEveryone,
+    DoneWithTheTableUntouched,
+    // What is reported.
+    MoveCountInvented,
+    MovesByTenant,
+    MovesByOldNodeAcrossLevels,
+    RestOfTheListCleared,
+    RefusalClearsTheList,
+    RefusalReportsANode,
+    ReleaseReportsNoNode,
+    // Who is turned down, and why.
+    NoRoomToEveryone,
+    NoRoomForTheLastPage,
+    NoRoomWhereThreeWouldMove,
+    HoldingsBeforeTheTable,
+    LegalTakenForSafe,
+    TenantBeforeTheList,
+    TenantCutToTwelveBits,
+    PagesBeforeTheTenant,
+    NoPagesRefused,
+    PagesRoundedDown,
+    LongerTableTaken,
+    LongerMoveListRefused,
+    TallerTreeTaken,
+    OpeningLeavesTheTable,
+    OpeningWantsAnOrderlyTable,
+    // Maps.
+    BitsFromTheTop,
+    WholeMapDrawn,
+    WholeMapCounted,
+    AnyTableDrawn,
+    MapBeforeTheTable,
+    // The journal.
+    FirstKindBeforeLength,
+    EndBeforeTheWholeJournal,
+    LengthLeftOut,
+    OpenAgainBeforeCutShort,
+    CutShortBeforeUnknownKind,
+    RefusalAtTheWrongOffset,
+    HighByteFirst,
+    PartlyWritten,
+    RestOfTheBytesCleared,
+    // The listing.
+    LineForTheRefusedOpening,
+    RefusedCallsLeftOut,
+    ZeroForNoNode,
+    NothingBeforeAnEarlyEnd,
+}
+
+impl Fault {
+    pub const PLACES: [Fault; 10] = [
+        Fault::MoversPairedByTenant,
+        Fault::NewcomerPairedByTenant,
+        Fault::NewcomerTakesTheFirstPlace,
+        Fault::NobodyStays,
+        Fault::LeftmostGapWithoutSettling,
+        Fault::FirstGrantWellLaterOnesInTheGap,
+        Fault::SortedBySize,
+        Fault::HalfEmptyTakenForMeager,
+        Fault::NodeOneForEveryone,
+        Fault::DoneWithTheTableUntouched,
+    ];
+    pub const REPORTS: [Fault; 7] = [
+        Fault::MoveCountInvented,
+        Fault::MovesByTenant,
+        Fault::MovesByOldNodeAcrossLevels,
+        Fault::RestOfTheListCleared,
+        Fault::RefusalClearsTheList,
+        Fault::RefusalReportsANode,
+        Fault::ReleaseReportsNoNode,
+    ];
+    pub const REFUSALS: [Fault; 15] = [
+        Fault::NoRoomToEveryone,
+        Fault::NoRoomForTheLastPage,
+        Fault::NoRoomWhereThreeWouldMove,
+        Fault::HoldingsBeforeTheTable,
+        Fault::LegalTakenForSafe,
+        Fault::TenantBeforeTheList,
+        Fault::TenantCutToTwelveBits,
+        Fault::PagesBeforeTheTenant,
+        Fault::NoPagesRefused,
+        Fault::PagesRoundedDown,
+        Fault::LongerTableTaken,
+        Fault::LongerMoveListRefused,
+        Fault::TallerTreeTaken,
+        Fault::OpeningLeavesTheTable,
+        Fault::OpeningWantsAnOrderlyTable,
+    ];
+    pub const MAPS: [Fault; 5] = [
+        Fault::BitsFromTheTop,
+        Fault::WholeMapDrawn,
+        Fault::WholeMapCounted,
+        Fault::AnyTableDrawn,
+        Fault::MapBeforeTheTable,
+    ];
+    pub const JOURNALS: [Fault; 9] = [
+        Fault::FirstKindBeforeLength,
+        Fault::EndBeforeTheWholeJournal,
+        Fault::LengthLeftOut,
+        Fault::OpenAgainBeforeCutShort,
+        Fault::CutShortBeforeUnknownKind,
+        Fault::RefusalAtTheWrongOffset,
+        Fault::HighByteFirst,
+        Fault::PartlyWritten,
+        Fault::RestOfTheBytesCleared,
+    ];
+    pub const LISTINGS: [Fault; 4] = [
+        Fault::LineForTheRefusedOpening,
+        Fault::RefusedCallsLeftOut,
+        Fault::ZeroForNoNode,
+        Fault::NothingBeforeAnEarlyEnd,
+    ];
+}
+
+/// A planner with one mistake.
+pub struct Faulty(pub Fault);
+
+fn refused(refusal: Refusal) -> Reply {
+    Reply {
+        answer: refusal.number(),
+        node: 0,
+        moves: 0,
+    }
+}
+
+/// The table before a call and its request, with what somebody makes of them.
+struct Wrong<'a> {
+    tree: Tree,
+    before: &'a [Node],
+    request: Request,
+}
+
+impl Wrong<'_> {
+    fn tenant(&self) -> usize {
+        self.request.tenant() as usize
+    }
+
+    /// Makes a table the outcome: writes it, and the differences as moves in the right order.
+    fn commit(&self, after: &[Node], table: &mut [u8], moves: &mut [u8]) -> Reply {
+        let mut differences: Vec<Move> = (0..)
+            .zip(self.before.iter().zip(after))
+            .filter(|&(tenant, (old, new))| old != new && usize::from(tenant) != self.tenant())
+            .map(|(tenant, (&old, &new))| Move { tenant, old, new })
+            .collect();
+        differences.sort_by_key(|step| (self.tree.level(step.old), step.old));
+        table.copy_from_slice(&table_image(after));
+        put_moves(&differences, moves);
+        let own = [self.before, after].map(|table| table[self.tenant()]);
+        Reply {
+            answer: DONE,
+            node: own[0].max(own[1]).into(),
+            moves: differences.len() as u32,
+        }
+    }
+
+    /// Deals the places that changed hands out again at each level, to the tenants in another order.
+    fn dealt_again<K: Ord>(&self, after: &[Node], order: impl Fn(usize) -> K) -> Vec<Node> {
+        let mut dealt = after.to_vec();
+        for level in self.tree.levels() {
+            let mut tenants: Vec<usize> = (0..after.len())
+                .filter(|&tenant| after[tenant] != self.before[tenant] && after[tenant] != 0)
+                .filter(|&tenant| self.tree.level(after[tenant]) == level)
+                .collect();
+            let mut places: Vec<Node> = tenants.iter().map(|&tenant| after[tenant]).collect();
+            places.sort_unstable();
+            tenants.sort_by_key(|&tenant| order(tenant));
+            for (tenant, place) in tenants.into_iter().zip(places) {
+                dealt[tenant] = place;
+            }
+        }
+        dealt
+    }
+
+    /// Everybody at the places of a layout, at each level left to right as they stood, the newcomer last.
+    fn in_order(&self, layout: &[Node]) -> Vec<Node> {
+        let mut standing = self.before.to_vec();
+        let newcomer = level_wanted(self.request);
+        standing[self.tenant()] = 0;
+        let mut after = vec![0; standing.len()];
+        for level in self.tree.levels() {
+            let at_level = |node: Node| node != 0 && self.tree.level(node) == level;
+            let mut tenants: Vec<usize> = (0..standing.len()).filter(|&t| at_level(standing[t])).collect();
+            tenants.sort_by_key(|&tenant| standing[tenant]);
+            tenants.extend((newcomer == Some(level)).then_some(self.tenant()));
+            let places = layout.iter().copied().filter(|&node| at_level(node));
+            for (tenant, place) in tenants.into_iter().zip(places) {
+                after[tenant] = place;
+            }
+        }
+        after
+    }
+
+    fn counts_after(&self) -> Counts {
+        let held: Vec<Node> = self.before.iter().copied().filter(|&node| node != 0).collect();
+        let mut counts = self.tree.counts(&held);
+        match level_wanted(self.request) {
+            Some(level) => counts[level as usize] += 1,
+            None => counts[self.tree.level(self.before[self.tenant()]) as usize] -= 1,
+        }
+        counts
+    }
+
+    fn fills_the_reserve(&self) -> bool {
+        self.tree.pages_taken(&self.counts_after()) == self.tree.pages_in_all()
+    }
+
+    /// The newcomer in the first gap of its size and everybody else where they are.
+    fn in_the_gap(&self) -> Option<Vec<Node>> {
+        let mut after = self.before.to_vec();
+        after[self.tenant()] = match level_wanted(self.request) {
+            Some(level) => leftmost_free(self.tree, self.before, level)?,
+            None => 0,
+        };
+        Some(after)
+    }
+}
+
+fn leftmost_free(tree: Tree, table: &[Node], level: u32) -> Option<Node> {
+    let held: Vec<Node> = table.iter().copied().filter(|&node| node != 0).collect();
+    tree.nodes_at(level).find(|&node| is_free(&held, node))
+}
+
+fn place(tree: Tree, held: &mut Vec<Node>, level: u32) {
+    let free = leftmost_free(tree, held, level).expect("pages that fit");
+    held.push(free);
+}
+
+/// Smallest blocks first, each on the first free place.
+fn sorted_by_size(tree: Tree, counts: &Counts) -> Vec<Node> {
+    let mut held = Vec::new();
+    for (level, &number) in tree.levels().zip(counts) {
+        (0..number).for_each(|_| place(tree, &mut held, level));
+    }
+    held.sort_unstable();
+    held
+}
+
+/// The lifting rule, but a subtree that is half empty is emptied as well.
+fn half_empty_lifted(tree: Tree, counts: &Counts) -> Vec<Node> {
+    let mut held: Vec<Node> = Vec::new();
+    for (level, &number) in tree.levels().zip(counts) {
+        let last = tree.nodes_at(level).rev().find(|&node| !is_free(&held, node));
+        let inside: Vec<Node> = match last {
+            Some(last) => held.iter().copied().filter(|&node| is_under(node, last)).collect(),
+            None => Vec::new(),
+        };
+        let pages: usize = inside.iter().map(|&node| tree.pages(node).len()).sum();
+        let lifted = if 2 * pages <= 1 << level { inside } else { Vec::new() };
+        held.retain(|node| !lifted.contains(node));
+        (0..number).for_each(|_| place(tree, &mut held, level));
+        lifted.iter().for_each(|&node| place(tree, &mut held, tree.level(node)));
+    }
+    held.sort_unstable();
+    held
+}
+
+impl Faulty {
+    fn plan(&self, height: u32, table: &mut [u8], moves: &mut [u8], request: Request) -> Reply {
+        if let Some(reply) = self.wrong_before(height, table, moves, request) {
+            return reply;
+        }
+        let before = table_from(table);
+        let lent_moves = moves.to_vec();
+        let reply = ask(&mut Oracle, height, table, moves, request);
+        if reply.answer == DONE {
+            let wrong = Wrong {
+                tree: Tree::new(height),
+                before: &before,
+                request,
+            };
+            self.wrong_when_done(&wrong, table, moves, &lent_moves, reply)
+        } else {
+            self.wrong_when_refused(moves, request, reply)
+        }
+    }
+
+    /// Mistakes in the arguments and in the order of the checks.
+    fn wrong_before(&self, height: u32, table: &mut [u8], moves: &mut [u8], request: Request) -> Option<Reply> {
+        let reserve_is_fine = height <= 12 && table.len() == TABLE_BYTES;
+        let list_is_fine = moves.len() >= 24;
+        let tenant = request.tenant();
+        let reply = match (self.0, request) {
+            (Fault::TenantBeforeTheList, _) if reserve_is_fine && tenant > 4095 => refused(Refusal::Tenant),
+            (Fault::TenantCutToTwelveBits, Request::Release { tenant }) if tenant > 0xffff => {
+                let tenant = tenant & 0xfff;
+                ask(&mut Oracle, height, table, moves, Request::Release { tenant })
+            }
+            (Fault::PagesBeforeTheTenant, Request::GrantPages { pages, .. })
+                if reserve_is_fine && list_is_fine && pages > 1 << height =>
+            {
+                refused(Refusal::Pages)
+            }
+            (Fault::NoPagesRefused, Request::GrantPages { tenant, pages: 0 }) => {
+                let pages = u16::MAX.into();
+                ask(&mut Oracle, height, table, moves, Request::GrantPages { tenant, pages })
+            }
+            (Fault::PagesRoundedDown, Request::GrantPages { tenant, pages })
+                if reserve_is_fine && 0 < pages && pages <= 1 << height =>
+            {
+                let level = pages.ilog2();
+                ask(&mut Oracle, height, table, moves, Request::GrantLevel { tenant, level })
+            }
+            (Fault::LongerTableTaken, _) if table.len() > TABLE_BYTES => {
+                ask(&mut Oracle, height, &mut table[..TABLE_BYTES], moves, request)
+            }
+            (Fault::LongerMoveListRefused, _) if !moves.len().is_multiple_of(MOVE_BYTES) => {
+                ask(&mut Oracle, height, table, &mut [], request)
+            }
+            (Fault::TallerTreeTaken, _) if height == 13 => ask(&mut Oracle, 12, table, moves, request),
+            (Fault::HoldingsBeforeTheTable, _) => return self.holdings_first(height, table, moves, request),
+            (Fault::LegalTakenForSafe, _) => return self.legal_is_enough(height, table, moves, request),
+            _ => return None,
+        };
+        Some(reply)
+    }
+
+    /// Looks at the tenant's own entry before the whole table.
+    fn holdings_first(&self, height: u32, table: &mut [u8], moves: &[u8], request: Request) -> Option<Reply> {
+        let reply = ask(&mut Oracle, height, &mut table.to_vec(), &mut moves.to_vec(), request);
+        if reply.answer != Refusal::Table.number() {
+            return None;
+        }
+        let holds = table_from(table)[request.tenant() as usize] != 0;
+        match level_wanted(request) {
+            Some(_) if holds => Some(refused(Refusal::HoldsAlready)),
+            None if !holds => Some(refused(Refusal::HoldsNothing)),
+            _ => None,
+        }
+    }
+
+    /// Takes every legal table, and releases from it.
+    fn legal_is_enough(&self, height: u32, table: &mut [u8], moves: &mut [u8], request: Request) -> Option<Reply> {
+        let reply = ask(&mut Oracle, height, &mut table.to_vec(), &mut moves.to_vec(), request);
+        if reply.answer != Refusal::Table.number() || level_wanted(request).is_some() {
+            return None;
+        }
+        let tree = Tree::new(height);
+        let before = table_from(table);
+        let held: Vec<Node> = before.iter().copied().filter(|&node| node != 0).collect();
+        if held.iter().any(|&node| node > tree.last_node()) || !is_legal(&held) {
+            return None;
+        }
+        let wrong = Wrong {
+            tree,
+            before: &before,
+            request,
+        };
+        match before[wrong.tenant()] {
+            0 => Some(refused(Refusal::HoldsNothing)),
+            _ => wrong.in_the_gap().map(|after| wrong.commit(&after, table, moves)),
+        }
+    }
+
+    /// Mistakes in what an accepted call does. The honest outcome is already written.
+    fn wrong_when_done(
+        &self,
+        wrong: &Wrong,
+        table: &mut [u8],
+        moves: &mut [u8],
+        lent_moves: &[u8],
+        reply: Reply,
+    ) -> Reply {
+        let after = table_from(table);
+        let is_grant = level_wanted(wrong.request).is_some();
+        let mut again = |after: Option<Vec<Node>>| {
+            moves.copy_from_slice(lent_moves);
+            match after {
+                Some(after) => wrong.commit(&after, table, moves),
+                None => {
+                    table.copy_from_slice(&table_image(wrong.before));
+                    refused(Refusal::NoRoom)
+                }
+            }
+        };
+        match self.0 {
+            Fault::MoversPairedByTenant => again(Some(
+                wrong.dealt_again(&after, |tenant| (wrong.before[tenant] == 0, tenant)),
+            )),
+            Fault::NewcomerPairedByTenant => again(Some(wrong.dealt_again(&after, |tenant| tenant))),
+            Fault::NewcomerTakesTheFirstPlace => again(Some(wrong.dealt_again(&after, |tenant| wrong.before[tenant]))),
+            Fault::NobodyStays => {
+                let mut layout: Vec<Node> = after.iter().copied().filter(|&node| node != 0).collect();
+                layout.sort_unstable();
+                again(Some(wrong.in_order(&layout)))
+            }
+            Fault::LeftmostGapWithoutSettling => again(wrong.in_the_gap()),
+            Fault::FirstGrantWellLaterOnesInTheGap if is_grant && wrong.before.iter().any(|&node| node != 0) => {
+                again(wrong.in_the_gap())
+            }
+            Fault::SortedBySize => again(Some(wrong.in_order(&sorted_by_size(wrong.tree, &wrong.counts_after())))),
+            Fault::HalfEmptyTakenForMeager => again(Some(
+                wrong.in_order(&half_empty_lifted(wrong.tree, &wrong.counts_after())),
+            )),
+            Fault::NodeOneForEveryone if is_grant => {
+                let mut after = wrong.before.to_vec();
+                after[wrong.tenant()] = 1;
+                again(Some(after))
+            }
+            Fault::DoneWithTheTableUntouched => {
+                table.copy_from_slice(&table_image(wrong.before));
+                reply
+            }
+            Fault::NoRoomToEveryone if is_grant => again(None),
+            Fault::NoRoomForTheLastPage if is_grant && wrong.fills_the_reserve() => again(None),
+            Fault::NoRoomWhereThreeWouldMove if is_grant && reply.moves == 3 => again(None),
+            Fault::MoveCountInvented => Reply {
+                moves: (reply.moves + 1) % 4,
+                ..reply
+            },
+            Fault::MovesByTenant => reordered(moves, reply, |step| u32::from(step.tenant)),
+            Fault::MovesByOldNodeAcrossLevels => reordered(moves, reply, |step| u32::from(step.old)),
+            Fault::RestOfTheListCleared => {
+                moves[reply.moves as usize * MOVE_BYTES..].fill(0);
+                reply
+            }
+            Fault::ReleaseReportsNoNode if !is_grant => Reply { node: 0, ..reply },
+            _ => reply,
+        }
+    }
+
+    /// Mistakes in what a refused call leaves behind.
+    fn wrong_when_refused(&self, moves: &mut [u8], request: Request, reply: Reply) -> Reply {
+        match self.0 {
+            Fault::RefusalClearsTheList => moves.fill(0),
+            Fault::RefusalReportsANode if reply.answer == Refusal::HoldsAlready.number() => {
+                let node = 1 + request.tenant();
+                return Reply { node, ..reply };
+            }
+            _ => {}
+        }
+        reply
+    }
+}
+
+/// The moves written again in another order.
+fn reordered(moves: &mut [u8], reply: Reply, order: impl Fn(&Move) -> u32) -> Reply {
+    let mut steps = moves_from(moves, reply.moves);
+    steps.sort_by_key(order);
+    put_moves(&steps, moves);
+    reply
+}
+
+impl Subject for Faulty {
+    fn open(&mut self, height: u32, table: &mut [u8]) -> u32 {
+        match self.0 {
+            Fault::OpeningLeavesTheTable => Oracle.open(height, &mut table.to_vec()),
+            Fault::OpeningWantsAnOrderlyTable => {
+                let mut map = [0; MAP_BYTES];
+                let answer = Oracle.draw(height, table, &mut map);
+                if answer == DONE {
+                    Oracle.open(height, table)
+                } else {
+                    answer
+                }
+            }
+            Fault::LongerTableTaken if table.len() > TABLE_BYTES => Oracle.open(height, &mut table[..TABLE_BYTES]),
+            Fault::TallerTreeTaken if height == 13 => Oracle.open(12, table),
+            _ => Oracle.open(height, table),
+        }
+    }
+
+    fn grant_level(&mut self, height: u32, table: &mut [u8], moves: &mut [u8], tenant: u32, level: u32) -> Reply {
+        self.plan(height, table, moves, Request::GrantLevel { tenant, level })
+    }
+
+    fn grant_pages(&mut self, height: u32, table: &mut [u8], moves: &mut [u8], tenant: u32, pages: u32) -> Reply {
+        self.plan(height, table, moves, Request::GrantPages { tenant, pages })
+    }
+
+    fn release(&mut self, height: u32, table: &mut [u8], moves: &mut [u8], tenant: u32) -> Reply {
+        self.plan(height, table, moves, Request::Release { tenant })
+    }
+
+    fn draw(&mut self, height: u32, table: &[u8], map: &mut [u8]) -> u32 {
+        let answer = Oracle.draw(height, table, map);
+        match self.0 {
+            Fault::BitsFromTheTop if answer == DONE => {
+                map[..MAP_BYTES].iter_mut().for_each(|byte| *byte = byte.reverse_bits());
+                answer
+            }
+            Fault::WholeMapDrawn if answer == DONE => {
+                map[MAP_BYTES..].fill(0);
+                answer
+            }
+            Fault::AnyTableDrawn if answer == Refusal::Table.number() && map.len() >= MAP_BYTES => {
+                map[..MAP_BYTES].fill(0);
+                DONE
+            }
+            Fault::MapBeforeTheTable if answer == Refusal::Table.number() && map.len() < MAP_BYTES => {
+                Refusal::TooSmall.number()
+            }
+            _ => answer,
+        }
+    }
+
+    fn count(&mut self, map: &[u8]) -> Count {
+        let mut count = Oracle.count(map);
+        if self.0 == Fault::WholeMapCounted && count.answer == DONE {
+            count.pages = map.iter().map(|byte| byte.count_ones()).sum();
+        }
+        count
+    }
+
+    fn read(&mut self, journal: &[u8], offset: usize) -> Reading {
+        let honest = Oracle.read(journal, offset);
+        let refused = |refusal: Refusal, offset| Reading::Refused {
+            number: refusal.number(),
+            offset,
+        };
+        let is = |refusal: Refusal| matches!(honest, Reading::Refused { number, .. } if number == refusal.number());
+        match self.0 {
+            Fault::FirstKindBeforeLength if journal.first() != Some(&1) => refused(Refusal::NoOpening, 0),
+            Fault::EndBeforeTheWholeJournal if offset >= journal.len() && !journal.is_empty() => Reading::End,
+            Fault::LengthLeftOut if is(Refusal::TooLong) && offset < LONGEST => {
+                Oracle.read(&journal[..LONGEST], offset)
+            }
+            Fault::OpenAgainBeforeCutShort if is(Refusal::CutShort) && offset > 0 && journal[offset] == 1 => {
+                refused(Refusal::OpenAgain, offset)
+            }
+            Fault::CutShortBeforeUnknownKind if is(Refusal::UnknownKind) && offset + 1 == journal.len() => {
+                refused(Refusal::CutShort, offset)
+            }
+            Fault::RefusalAtTheWrongOffset if is(Refusal::CutShort) => refused(Refusal::CutShort, journal.len()),
+            _ => honest,
+        }
+    }
+
+    fn write(&mut self, record: &Record, lent: &mut [u8]) -> u32 {
+        let answer = Oracle.write(record, lent);
+        match (self.0, record) {
+            (Fault::HighByteFirst, Record::Release { .. }) if answer == DONE => lent[1..3].reverse(),
+            (Fault::PartlyWritten, _) if answer != DONE && !lent.is_empty() => lent[0] = record.bytes()[0],
+            (Fault::RestOfTheBytesCleared, _) if answer == DONE => lent[record.bytes().len()..].fill(0),
+            _ => {}
+        }
+        answer
+    }
+
+    fn list(&mut self, journal: &[u8]) -> Vec<u8> {
+        let honest = String::from_utf8(Oracle.list(journal)).expect("a listing is plain text");
+        let answer_of = |line: &str| line.split(' ').nth(4).unwrap_or("0").to_string();
+        let lines = honest.split_inclusive('\n');
+        let wrong: String = match self.0 {
+            Fault::LineForTheRefusedOpening if honest == "! 0 1\n" => format!("1 O {} - 1 - 0\n{honest}", journal[1]),
+            Fault::RefusedCallsLeftOut => lines.filter(|line| answer_of(line) == "0").collect(),
+            Fault::ZeroForNoNode => honest.replace(" - 0\n", " 0 0\n"),
+            Fault::NothingBeforeAnEarlyEnd if honest.contains('!') => {
+                lines.filter(|line| line.starts_with('!')).collect()
+            }
+            _ => honest,
+        };
+        wrong.into_bytes()
+    }
+}
+
+/// The methods in which the planners below do not differ from the second planner.
+macro_rules! as_the_oracle {
+    () => {
+        fn count(&mut self, map: &[u8]) -> Count {
+            Oracle.count(map)
+        }
+
+        fn read(&mut self, journal: &[u8], offset: usize) -> Reading {
+            Oracle.read(journal, offset)
+        }
+
+        fn write(&mut self, record: &Record, lent: &mut [u8]) -> u32 {
+            Oracle.write(record, lent)
+        }
+
+        fn list(&mut self, journal: &[u8]) -> Vec<u8> {
+            Oracle.list(journal)
+        }
+    };
+}
+
+/// A planner that goes wrong only in one rare situation: a grant of a size of which just two blocks are held.
+pub struct ThirdOfItsSize;
+
+impl ThirdOfItsSize {
+    fn grant(&self, height: u32, table: &mut [u8], moves: &mut [u8], request: Request) -> Reply {
+        let before = table_from(table);
+        let reply = ask(&mut Oracle, height, table, moves, request);
+        let level = level_wanted(request);
+        let same_size = |&&node: &&Node| node != 0 && Some(Tree::new(height).level(node)) == level;
+        if reply.answer == DONE && before.iter().filter(same_size).count() == 2 {
+            let node = reply.node ^ 1;
+            return Reply { node, ..reply };
+        }
+        reply
+    }
+}
+
+impl Subject for ThirdOfItsSize {
+    fn open(&mut self, height: u32, table: &mut [u8]) -> u32 {
+        Oracle.open(height, table)
+    }
+
+    fn grant_level(&mut self, height: u32, table: &mut [u8], moves: &mut [u8], tenant: u32, level: u32) -> Reply {
+        self.grant(height, table, moves, Request::GrantLevel { tenant, level })
+    }
+
+    fn grant_pages(&mut self, height: u32, table: &mut [u8], moves: &mut [u8], tenant: u32, pages: u32) -> Reply {
+        self.grant(height, table, moves, Request::GrantPages { tenant, pages })
+    }
+
+    fn release(&mut self, height: u32, table: &mut [u8], moves: &mut [u8], tenant: u32) -> Reply {
+        Oracle.release(height, table, moves, tenant)
+    }
+
+    fn draw(&mut self, height: u32, table: &[u8], map: &mut [u8]) -> u32 {
+        Oracle.draw(height, table, map)
+    }
+
+    as_the_oracle!();
+}
+
+/// A planner without mistakes whose door takes heights and levels of 8 bits and tenants and pages of 16.
+pub struct Narrow;
+
+fn eight_bits(number: u32) -> u32 {
+    u8::try_from(number).expect("a number of 8 bits").into()
+}
+
+fn sixteen_bits(number: u32) -> u32 {
+    u16::try_from(number).expect("a number of 16 bits").into()
+}
+
+impl Subject for Narrow {
+    fn reach(&self) -> Reach {
+        Reach {
+            height: u8::MAX.into(),
+            tenant: u16::MAX.into(),
+            level: u8::MAX.into(),
+            pages: u16::MAX.into(),
+        }
+    }
+
+    fn open(&mut self, height: u32, table: &mut [u8]) -> u32 {
+        Oracle.open(eight_bits(height), table)
+    }
+
+    fn grant_level(&mut self, height: u32, table: &mut [u8], moves: &mut [u8], tenant: u32, level: u32) -> Reply {
+        Oracle.grant_level(
+            eight_bits(height),
+            table,
+            moves,
+            sixteen_bits(tenant),
+            eight_bits(level),
+        )
+    }
+
+    fn grant_pages(&mut self, height: u32, table: &mut [u8], moves: &mut [u8], tenant: u32, pages: u32) -> Reply {
+        Oracle.grant_pages(
+            eight_bits(height),
+            table,
+            moves,
+            sixteen_bits(tenant),
+            sixteen_bits(pages),
+        )
+    }
+
+    fn release(&mut self, height: u32, table: &mut [u8], moves: &mut [u8], tenant: u32) -> Reply {
+        Oracle.release(eight_bits(height), table, moves, sixteen_bits(tenant))
+    }
+
+    fn draw(&mut self, height: u32, table: &[u8], map: &mut [u8]) -> u32 {
+        Oracle.draw(eight_bits(height), table, map)
+    }
+
+    as_the_oracle!();
+}

@@ -1,0 +1,454 @@
+//! Everything that document 01 gives as an example, an edge or a mistake.
+
+use oracle::definitions::{is_free, is_legal, Counts, Node, Tree};
+use oracle::generate::journal_of;
+use oracle::journal::{self, Reading, Record, LONGEST};
+use oracle::lifting::layout;
+use oracle::listing::list;
+use oracle::page_map::{self, MAP_BYTES};
+use oracle::planner::{self, Lent, Move, Outcome, Request, TENANTS};
+use oracle::refusal::Refusal;
+
+/// Counts from those of the lowest levels.
+fn counts(lowest: &[u32]) -> Counts {
+    let mut counts = Counts::default();
+    counts[..lowest.len()].copy_from_slice(lowest);
+    counts
+}
+
+fn ascending(nodes: &[Node]) -> Vec<Node> {
+    let mut nodes = nodes.to_vec();
+    nodes.sort_unstable();
+    nodes
+}
+
+/// A table in which tenants 0, 1, 2, .. hold the given nodes.
+fn table(nodes: &[Node]) -> Vec<Node> {
+    let mut table = nodes.to_vec();
+    table.resize(TENANTS, 0);
+    table
+}
+
+fn call(height: u32, table: &[Node], request: Request) -> Outcome {
+    let entries = 4;
+    planner::call(Lent { height, table, entries }, request)
+}
+
+fn grant(tenant: u32, level: u32) -> Request {
+    Request::GrantLevel { tenant, level }
+}
+
+fn grant_pages(tenant: u32, pages: u32) -> Request {
+    Request::GrantPages { tenant, pages }
+}
+
+fn release(tenant: u32) -> Request {
+    Request::Release { tenant }
+}
+
+fn step(tenant: u16, old: Node, new: Node) -> Move {
+    Move { tenant, old, new }
+}
+
+const LAYOUTS: [(u32, &[u32], &[Node]); 12] = [
+    (3, &[0, 0, 0, 0], &[]),
+    (3, &[1, 0, 0, 0], &[8]),
+    (3, &[1, 1, 0, 0], &[4, 10]),
+    (3, &[2, 1, 0, 0], &[8, 9, 5]),
+    (3, &[3, 1, 0, 0], &[8, 9, 5, 12]),
+    (3, &[1, 0, 1, 0], &[2, 12]),
+    (3, &[2, 0, 1, 0], &[8, 9, 3]),
+    (3, &[1, 1, 1, 0], &[4, 10, 3]),
+    (3, &[0, 1, 1, 0], &[2, 6]),
+    (3, &[1, 2, 0, 0], &[4, 5, 12]),
+    (3, &[0, 0, 0, 1], &[1]),
+    (0, &[1], &[1]),
+];
+
+#[test]
+fn starred_layouts() {
+    for (height, lowest, nodes) in LAYOUTS {
+        let tree = Tree::new(height);
+        assert_eq!(layout(tree, &counts(lowest)), Some(ascending(nodes)), "{lowest:?}");
+        assert!(is_legal(nodes) && tree.is_safe(nodes), "{lowest:?}");
+    }
+}
+
+#[test]
+fn nine_pages_do_not_fit_into_eight() {
+    assert_eq!(layout(Tree::new(3), &counts(&[1, 2, 1, 0])), None);
+    let held = table(&[4, 10, 3]);
+    let outcome = call(3, &held, grant(9, 1));
+    assert_eq!(outcome.answer, 10);
+    assert_eq!((outcome.node, outcome.moves.len()), (0, 0));
+    assert_eq!(outcome.table, held);
+}
+
+const BEFORE: [Node; 5] = [16, 34, 9, 12, 5];
+
+#[test]
+fn the_height_5_grant_and_release() {
+    let granted = call(5, &table(&BEFORE), grant(77, 1));
+    assert_eq!((granted.answer, granted.node), (0, 17));
+    assert_eq!(granted.moves, [step(1, 34, 44), step(3, 12, 10), step(4, 5, 6)]);
+    assert_eq!(granted.table[..5], [16, 44, 9, 10, 6]);
+    assert_eq!(granted.table[77], 17);
+
+    let released = call(5, &granted.table, release(0));
+    assert_eq!((released.answer, released.node), (0, 16));
+    assert_eq!(
+        released.moves,
+        [step(1, 44, 34), step(77, 17, 16), step(3, 10, 12), step(4, 6, 5)]
+    );
+    assert_eq!(released.table[..5], [0, 34, 9, 12, 5]);
+    assert_eq!(released.table[77], 16);
+}
+
+const JOURNAL: [u8; 22] = [1, 2, 2, 0, 0, 1, 2, 1, 0, 0, 2, 2, 0, 0, 4, 7, 0, 3, 3, 0, 1, 0];
+
+const LISTING: &str = "\
+1 O 2 - 0 - 0
+2 G 0 1 0 2 0
+3 G 1 0 0 6 0
+4 G 2 0 0 5 2 1:6>4 0:2>3
+5 R 7 - 9 - 0
+6 P 3 1 10 - 0
+";
+
+fn listing(journal: &[u8]) -> String {
+    String::from_utf8(list(journal)).expect("a listing is plain text")
+}
+
+#[test]
+fn the_listing_of_22_bytes() {
+    assert_eq!(listing(&JOURNAL), LISTING);
+}
+
+#[test]
+fn listings_that_end_early() {
+    assert_eq!(listing(&[]), "! 0 11\n");
+    assert_eq!(listing(&[2, 0, 0, 0]), "! 0 11\n");
+    assert_eq!(listing(&[1]), "! 0 13\n");
+    assert_eq!(listing(&[1, 13, 9]), "! 0 1\n");
+    assert_eq!(listing(&[1, 255]), "! 0 1\n");
+    assert_eq!(listing(&[1, 12]), "1 O 12 - 0 - 0\n");
+    assert_eq!(listing(&[1, 0, 5]), "1 O 0 - 0 - 0\n! 2 12\n");
+    assert_eq!(listing(&[1, 0, 4, 1]), "1 O 0 - 0 - 0\n! 2 13\n");
+    assert_eq!(listing(&[1, 0, 1, 0]), "1 O 0 - 0 - 0\n! 2 14\n");
+    assert_eq!(listing(&[1, 0, 1]), "1 O 0 - 0 - 0\n! 2 13\n");
+}
+
+#[test]
+fn refused_arguments_are_lines_of_the_listing() {
+    let journal = [
+        vec![1, 1],
+        vec![2, 0, 16, 0],
+        vec![2, 0, 0, 2],
+        vec![3, 0, 0, 3, 0],
+        vec![3, 255, 15, 0, 0],
+        vec![2, 255, 15, 0],
+        vec![4, 255, 255],
+        vec![4, 255, 15],
+    ]
+    .concat();
+    let expected = "\
+1 O 1 - 0 - 0
+2 G 4096 0 4 - 0
+3 G 0 2 5 - 0
+4 P 0 3 6 - 0
+5 P 4095 0 0 2 0
+6 G 4095 0 8 - 0
+7 R 65535 - 4 - 0
+8 R 4095 - 0 2 0
+";
+    assert_eq!(listing(&journal), expected);
+}
+
+/// The first kind of refusal that applies, with everything else wrong as well.
+#[test]
+fn arguments_are_judged_in_the_order_of_their_numbers() {
+    let ruined = vec![9; TENANTS];
+    let short = vec![9; TENANTS - 1];
+    let long = vec![9; TENANTS + 1];
+    let answer = |height, table: &[Node], entries, request| {
+        let outcome = planner::call(Lent { height, table, entries }, request);
+        assert_eq!((outcome.node, outcome.moves.len()), (0, 0));
+        assert_eq!(outcome.table, table);
+        outcome.answer
+    };
+    for request in [grant(4096, 13), grant_pages(4096, 4097), release(4096)] {
+        assert_eq!(answer(13, &short, 3, request), 1);
+        assert_eq!(answer(12, &short, 3, request), 2);
+        assert_eq!(answer(12, &long, 3, request), 2);
+        assert_eq!(answer(12, &[], 3, request), 2);
+        assert_eq!(answer(12, &ruined, 3, request), 3);
+        assert_eq!(answer(12, &ruined, 0, request), 3);
+        assert_eq!(answer(12, &ruined, 4, request), 4);
+    }
+    assert_eq!(answer(12, &ruined, 4, grant(4095, 13)), 5);
+    assert_eq!(answer(12, &ruined, 4, grant_pages(4095, 4097)), 6);
+    assert_eq!(answer(12, &ruined, 4, grant(4095, 12)), 7);
+    assert_eq!(answer(12, &ruined, 4, grant_pages(4095, 4096)), 7);
+    assert_eq!(answer(12, &ruined, 4, release(4095)), 7);
+}
+
+#[test]
+fn edges_of_the_arguments() {
+    let empty = table(&[]);
+    assert_eq!(planner::open(12, &empty).answer, 0);
+    assert_eq!(planner::open(13, &empty).answer, 1);
+    assert_eq!(planner::open(13, &[]).answer, 1);
+    assert_eq!(planner::open(0, &empty[1..]).answer, 2);
+    assert_eq!(planner::open(0, &[0; TENANTS + 1]).answer, 2);
+    for height in 0..=12 {
+        let pages = 1 << height;
+        assert_eq!(call(height, &empty, grant(4095, 0)).answer, 0);
+        assert_eq!(call(height, &empty, grant(4096, 0)).answer, 4);
+        assert_eq!(call(height, &empty, grant(0, height)).node, 1);
+        assert_eq!(call(height, &empty, grant(0, height + 1)).answer, 5);
+        assert_eq!(call(height, &empty, grant_pages(0, 0)).node, pages as Node);
+        assert_eq!(call(height, &empty, grant_pages(0, pages)).node, 1);
+        assert_eq!(call(height, &empty, grant_pages(0, pages + 1)).answer, 6);
+    }
+    let three = Lent {
+        height: 0,
+        table: &empty,
+        entries: 3,
+    };
+    assert_eq!(planner::call(three, grant(0, 0)).answer, 3);
+    assert_eq!(planner::call(Lent { entries: 4, ..three }, grant(0, 0)).answer, 0);
+}
+
+#[test]
+fn opening_empties_any_table() {
+    let ruined = vec![65_535; TENANTS];
+    let opened = planner::open(3, &ruined);
+    assert_eq!((opened.answer, opened.node, opened.moves.len()), (0, 0, 0));
+    assert_eq!(opened.table, table(&[]));
+    assert_eq!(planner::open(13, &ruined).table, ruined);
+}
+
+#[test]
+fn pages_are_rounded_up_to_a_block() {
+    let levels = [0, 1, 2, 3, 4, 5, 8, 9, 4095, 4096].map(planner::level_for_pages);
+    assert_eq!(levels, [0, 0, 1, 2, 2, 3, 3, 4, 12, 12]);
+    let empty = table(&[]);
+    assert_eq!(call(3, &empty, grant_pages(0, 3)).node, 2);
+}
+
+#[test]
+fn the_table_is_judged_before_the_holdings() {
+    let past_the_tree = table(&[16]);
+    let twice = table(&[8, 8]);
+    let above_one_another = table(&[4, 8]);
+    let not_dense = table(&[9]);
+    let meager_in_front = table(&[8, 5]);
+    for wrong in [past_the_tree, twice, above_one_another, not_dense, meager_in_front] {
+        assert_eq!(call(3, &wrong, grant(0, 0)).answer, 7);
+        assert_eq!(call(3, &wrong, grant(9, 3)).answer, 7);
+        assert_eq!(call(3, &wrong, release(9)).answer, 7);
+    }
+    let full = table(&[1]);
+    assert_eq!(call(3, &full, grant(0, 0)).answer, 8);
+    assert_eq!(call(3, &full, grant(1, 0)).answer, 10);
+    assert_eq!(call(3, &full, release(1)).answer, 9);
+}
+
+#[test]
+fn the_last_node_of_the_tree_is_in_it() {
+    let tree = Tree::new(12);
+    let full: Vec<Node> = tree.nodes_at(0).collect();
+    assert_eq!(full.last(), Some(&8191));
+    assert_eq!(call(12, &full, release(4095)).node, 8191);
+    assert_eq!(call(12, &table(&[8192]), release(0)).answer, 7);
+}
+
+#[test]
+fn maps() {
+    let held = table(&[4, 10, 3]);
+    let mut map = [0xff; MAP_BYTES + 1];
+    assert_eq!(page_map::draw(3, &held, &mut map), Ok(()));
+    assert_eq!(map[0], 0b1111_0111);
+    assert!(map[1..MAP_BYTES].iter().all(|&byte| byte == 0));
+    assert_eq!(map[MAP_BYTES], 0xff);
+    assert_eq!(page_map::count(&map), Ok(7));
+    assert_eq!(page_map::count(&map[..MAP_BYTES]), Ok(7));
+    assert_eq!(page_map::count(&[0xff; MAP_BYTES]), Ok(4096));
+    assert_eq!(page_map::count(&[0xff; MAP_BYTES - 1]), Err(Refusal::TooSmall));
+
+    let mut short = [0xa5; MAP_BYTES - 1];
+    assert_eq!(page_map::draw(3, &held, &mut short), Err(Refusal::TooSmall));
+    assert_eq!(page_map::draw(3, &table(&[9]), &mut short), Err(Refusal::Table));
+    assert_eq!(page_map::draw(3, &held[1..], &mut short), Err(Refusal::TableLength));
+    assert_eq!(page_map::draw(13, &held[1..], &mut short), Err(Refusal::Height));
+    assert_eq!(short, [0xa5; MAP_BYTES - 1]);
+}
+
+fn refused(refusal: Refusal, offset: usize) -> Reading {
+    let number = refusal.number();
+    Reading::Refused { number, offset }
+}
+
+#[test]
+fn reading_record_by_record() {
+    let expected = [
+        Record::Open { height: 2 },
+        Record::GrantLevel { tenant: 0, level: 1 },
+        Record::GrantLevel { tenant: 1, level: 0 },
+        Record::GrantLevel { tenant: 2, level: 0 },
+        Record::Release { tenant: 7 },
+        Record::GrantPages { tenant: 3, pages: 1 },
+    ];
+    let mut offset = 0;
+    for record in expected {
+        let Reading::Record { record: found, next } = journal::read(&JOURNAL, offset) else {
+            panic!("no record at {offset}");
+        };
+        assert_eq!(found, record);
+        assert_eq!(JOURNAL[offset..next], record.bytes());
+        offset = next;
+    }
+    assert_eq!(offset, JOURNAL.len());
+    for past in [22, 23, usize::MAX] {
+        assert_eq!(journal::read(&JOURNAL, past), Reading::End);
+    }
+}
+
+#[test]
+fn reader_refusals_in_their_order() {
+    for offset in [0, 1, 2, 100, usize::MAX] {
+        assert_eq!(journal::read(&[], offset), refused(Refusal::NoOpening, 0));
+        assert_eq!(journal::read(&[4, 0, 0], offset), refused(Refusal::NoOpening, 0));
+    }
+    assert_eq!(journal::read(&[1], 0), refused(Refusal::CutShort, 0));
+    assert_eq!(journal::read(&[1, 9, 0], 2), refused(Refusal::UnknownKind, 2));
+    assert_eq!(journal::read(&[1, 9, 5, 1], 2), refused(Refusal::UnknownKind, 2));
+    assert_eq!(journal::read(&[1, 9, 3, 0, 0, 0], 2), refused(Refusal::CutShort, 2));
+    assert_eq!(journal::read(&[1, 1], 1), refused(Refusal::CutShort, 1));
+    assert_eq!(journal::read(&[1, 1, 1], 1), refused(Refusal::OpenAgain, 1));
+}
+
+#[test]
+fn the_longest_journal() {
+    let longest = journal_of(LONGEST);
+    let open = Record::Open { height: 2 };
+    assert_eq!(journal::read(&longest, 0), Reading::Record { record: open, next: 2 });
+    assert_eq!(journal::read(&longest, LONGEST), Reading::End);
+    let text = listing(&longest);
+    assert_eq!(text.lines().count(), 1 + 2 + (LONGEST - 10) / 3);
+    assert!(!text.contains('!'));
+
+    let mut too_long = journal_of(LONGEST + 1);
+    assert_eq!(listing(&too_long), "! 0 16\n");
+    too_long[0] = 9;
+    for offset in [0, 2, LONGEST, LONGEST + 1, usize::MAX] {
+        assert_eq!(journal::read(&too_long, offset), refused(Refusal::TooLong, 0));
+    }
+}
+
+#[test]
+fn every_record_fits_exactly_or_changes_nothing() {
+    let records = [
+        Record::Open { height: 255 },
+        Record::GrantLevel {
+            tenant: 0xfffe,
+            level: 200,
+        },
+        Record::GrantPages {
+            tenant: 0x1234,
+            pages: 0xabcd,
+        },
+        Record::Release { tenant: 0x0102 },
+    ];
+    for (record, length) in records.into_iter().zip([2, 4, 5, 3]) {
+        let mut lent = [0xa5; 8];
+        assert_eq!(journal::write(&record, &mut lent[..length - 1]), Err(Refusal::TooSmall));
+        assert_eq!(lent, [0xa5; 8]);
+        assert_eq!(journal::write(&record, &mut lent), Ok(()));
+        assert_eq!(lent[..length], record.bytes());
+        assert_eq!(lent[length..], [0xa5; 8][length..]);
+    }
+    assert_eq!(records[2].bytes(), [3, 0x34, 0x12, 0xcd, 0xab]);
+}
+
+// Layouts and rules that look tidy and are wrong. Each is built here as somebody might, and must come out different.
+
+/// The leftmost free places, level by level in some order, with no settling.
+fn leftmost(tree: Tree, counts: &Counts, levels: impl Iterator<Item = u32>) -> Vec<Node> {
+    let mut held = Vec::new();
+    for level in levels {
+        for _ in 0..counts[level as usize] {
+            let free = tree.nodes_at(level).find(|&node| is_free(&held, node));
+            held.push(free.expect("a free place"));
+        }
+    }
+    ascending(&held)
+}
+
+#[test]
+fn sorted_by_size_is_wrong() {
+    let tree = Tree::new(3);
+    let sizes = counts(&[1, 1]);
+    let sorted = leftmost(tree, &sizes, tree.levels());
+    assert_eq!(sorted, ascending(&[8, 5]));
+    assert!(!tree.is_safe(&sorted));
+    assert_ne!(Some(sorted), layout(tree, &sizes));
+}
+
+#[test]
+fn meager_is_not_half_empty() {
+    let tree = Tree::new(3);
+    let sizes = counts(&[2, 0, 1]);
+    // Taking a half empty tree for a meager one would carry both leaves behind the larger block.
+    let larger_first = leftmost(tree, &sizes, tree.levels().rev());
+    assert_eq!(larger_first, ascending(&[2, 12, 13]));
+    assert!(!tree.is_safe(&larger_first));
+    assert_eq!(layout(tree, &sizes), Some(ascending(&[8, 9, 3])));
+}
+
+#[test]
+fn the_leftmost_free_node_is_not_enough() {
+    let tree = Tree::new(5);
+    let free = tree.nodes_at(1).find(|&node| is_free(&BEFORE, node));
+    assert_eq!(free, Some(26));
+    let dropped = [&BEFORE[..], &[26]].concat();
+    assert!(is_legal(&dropped) && !tree.is_safe(&dropped));
+    assert_eq!(call(5, &table(&BEFORE), grant(9, 1)).node, 17);
+}
+
+#[test]
+fn the_largest_gap_does_not_decide() {
+    // Four leaves, of which the first and third go: without settling no two free pages are next to each other.
+    let tree = Tree::new(2);
+    let unsettled = [5, 7];
+    assert!(!tree.nodes_at(1).any(|node| is_free(&unsettled, node)));
+    let mut held = table(&[4, 5, 6, 7]);
+    for tenant in [0, 2] {
+        held = call(2, &held, release(tenant)).table;
+    }
+    let outcome = call(2, &held, grant(0, 1));
+    assert_eq!((outcome.answer, outcome.node), (0, 3));
+}
+
+#[test]
+fn the_newcomer_is_not_paired_by_tenant_number() {
+    // The listing's fourth line with the tenants renumbered so that the newcomer has the lowest number.
+    let mut held = table(&[]);
+    held[1] = 6;
+    held[2] = 2;
+    let outcome = call(2, &held, grant(0, 0));
+    assert_eq!((outcome.answer, outcome.node), (0, 5));
+    assert_eq!(outcome.moves, [step(1, 6, 4), step(2, 2, 3)]);
+}
+
+#[test]
+fn movers_are_not_paired_by_tenant_number() {
+    // Two movers of one level, of which the left one has the higher number.
+    let mut held = table(&[]);
+    for (tenant, node) in [(0, 8), (1, 9), (7, 10), (3, 11), (4, 6)] {
+        held[tenant] = node;
+    }
+    let outcome = call(3, &held, release(0));
+    assert_eq!((outcome.answer, outcome.node), (0, 8));
+    assert_eq!(outcome.moves, [step(7, 10, 8), step(3, 11, 12), step(4, 6, 5)]);
+}
