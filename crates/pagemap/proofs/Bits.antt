@@ -1,8 +1,8 @@
 -- The bits of a number, and of a map that is made of bits.
 use mathlib.Core.Path.{_≡_, refl, sym, ap, _∙_}
-use mathlib.Core.List.{List, [], _∷_, _++_}
+use mathlib.Core.List.{List, _++_}
 use Prim.Native.Nat.{ℕ, zero, suc, _+_, _-_, _*_, _/_, _%_, _^_, _≤_, _<_}
-use native.Mathlib.Nat.{add-zero, zero-add, add-suc, suc-add, mul-le-mul-right, mod-eq-of-lt, pow-suc}
+use native.Mathlib.Nat.{zero-add, mul-le-mul-right, mod-eq-of-lt, pow-suc}
 use native.Mathlib.Numerals.{one-add}
 use native.Mathlib.Decide.{ℕ-discrete, decLt}
 use native.Mathlib.Omega.{arith}
@@ -14,7 +14,6 @@ use lib.Pow.{shr-shr, high}
 use Rattle.tree.specs.Pages.{sum}
 use Rattle.tree.proofs.Sum.{sum-cong}
 use Rattle.layout.proofs.Pages.{sum-first}
-use Rattle.table.specs.Table.{tabulate}
 use Rattle.table.proofs.Tabulate.{tabulate-length, getD-tabulate, tabulate-cong, tabulate-last}
 use Rattle.pagemap.specs.Map.{byteOf, bytesOf}
 

@@ -4,4 +4,4 @@ pub mod SetBits
 pub mod Theorems
 pub mod Flags
 pub mod Rows
-pub mod Draw
+pub mod Drawn

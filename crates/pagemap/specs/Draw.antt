@@ -13,15 +13,18 @@ pub record Drawing : Type 0 where
   pub answer : ℕ
   pub map : List ℕ
 
--- 1, 2, 7 and 15
-abbrev pub draw-checks : ℕ → List ℕ → List ℕ → List Check
-draw-checks h T m = reserve-checks h T ++ check 7 (not (in-order? h T)) ∷ check 15 (ltb (length m) 512) ∷ []
+abbrev pub drawing : ℕ → List ℕ → Drawing
+drawing number m = record { answer = number; map = m }
+
+-- 7 and 15, after 1 and 2
+abbrev pub map-checks : ℕ → List ℕ → List ℕ → List Check
+map-checks h T m = check 7 (not (in-order? h T)) ∷ check 15 (ltb (length m) 512) ∷ []
 
 -- a refusal leaves the map m as it was
 abbrev pub unlessRefused : ℕ → List ℕ → List ℕ → Drawing
-unlessRefused zero m done = record { answer = 0; map = done }
-unlessRefused (suc n) m done = record { answer = suc n; map = m }
+unlessRefused zero m done = drawing 0 done
+unlessRefused (suc n) m done = drawing (suc n) m
 
 -- the page map in the first 512 bytes of m, and its later bytes untouched
 unfoldable pub drawn : ℕ → List ℕ → List ℕ → Drawing
-drawn h T m = unlessRefused (first (draw-checks h T m)) m (pageMap h T ++ drop 512 m)
+drawn h T m = unlessRefused (first (reserve-checks h T ++ map-checks h T m)) m (pageMap h T ++ drop 512 m)

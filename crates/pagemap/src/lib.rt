@@ -7,14 +7,38 @@ ghost use Rattle.tree.specs.Held.{one-if};
 ghost use Rattle.tree.specs.Pages.{coveredb};
 ghost use Rattle.layout.specs.Rows.{rowsHold};
 ghost use Rattle.pagemap.specs.Map.{byteOf, bytesOf};
+ghost use Rattle.pagemap.specs.Draw.{drawing, drawn};
 ghost use Rattle.pagemap.specs.Count.{setBits, counted};
 ghost use Rattle.pagemap.specs.Flags.{flags, filled, rowFilled};
+use calls::request::reserve_refusal;
 use layout::Layout;
+use survey::survey;
 
 // What counting answers: 0 and the number of set bits, or 15 and 0.
 pub struct Counted {
     pub number: u16,
     pub count: u16,
+}
+
+// Draws the page map of a table into the first 512 bytes, and answers 0 or the number of the first refusal that applies.
+pub fn draw(height: u16, table: &[u16], map: &mut [u8]) -> u16
+    ensures { λ r. ⌜ drawing r (now (map .exit)) ≡ drawn height (now (table .entry)) (now (map .entry)) ⌝ }
+{
+    let number = reserve_refusal(height, table.len());
+    if number != 0 {
+        return number;
+    }
+    let mut owner = [0u16; 8192];
+    let found = survey(height, table, &mut owner);
+    if !found.in_order {
+        return 7;
+    }
+    if map.len() < 512 {
+        return 15;
+    }
+    let counts = found.counts;
+    write_map(counts.layout(), map);
+    0
 }
 
 // The number of set bits in the first 512 bytes; 15 for a shorter map.
