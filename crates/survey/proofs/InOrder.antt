@@ -28,7 +28,7 @@ module _ (h m : ℕ) (T : List ℕ) (low : h ≤ 12) (long : 2 ^ suc h ≤ m) (b
 
   pub counts-are-levels : Once T → countsOf h T ≡ levelCounts h o
   unfolding countsOf
-  counts-are-levels once = tabulate-cong 0 13 (λ l q. tenants-are-sizes h T below once l) ∙ sym (level-counts-are-sizes h m T long below)
+  counts-are-levels once = tabulate-cong 0 13 (λ l q r. tenants-are-sizes h T below once l) ∙ sym (level-counts-are-sizes h m T long below)
 
   layout-owned : InOrder h T → LayoutOwned h (countsOf h T) o
   layout-owned i n e = owned-is-held n (layout-in-tree h (countsOf h T) n e) ∙ in-order-is-layout h T low i n ∙ e

@@ -19,16 +19,12 @@ use Rattle.tree.proofs.Count.{equal-of-both-ways}
 use Rattle.layout.specs.Layout.{pages}
 use Rattle.layout.specs.Set.{layoutSet}
 use Rattle.layout.proofs.Theorems.{layout-in-tree, layout-is-legal, layout-is-safe, layout-has-counts, legal-set-fits, safe-set-is-layout}
-use Rattle.table.specs.Table.{nodeAt, occupied, InOrder, tally, tenantsAt, tabulate, countsOf, all-below, in-order?}
-use Rattle.table.proofs.Tabulate.{getD-tabulate}
+use Rattle.table.specs.Table.{nodeAt, occupied, InOrder, tally, tenantsAt, countsOf, all-below, in-order?}
+use Rattle.table.proofs.Tabulate.{tabulate-length, getD-tabulate}
 use Rattle.table.proofs.Tally.{node-in-table, tenant-of, occupied-above-zero, occupied-by}
 use Rattle.table.proofs.Tally.{Once, tally-agrees, all-pass, node-stands-once, once-of-tally, tally-is-count}
 
 -- ---- the counts
-
-tabulate-length : (i n : ℕ) (f : ℕ → ℕ) → length (tabulate i n f) ≡ n
-tabulate-length i zero f = refl
-tabulate-length i (suc n) f = ap suc (tabulate-length (suc i) n f)
 
 pub counts-length : (h : ℕ) (T : List ℕ) → length (countsOf h T) ≡ 13
 unfolding countsOf
