@@ -45,15 +45,15 @@ pub fn draw(height: u16, table: &[u16], map: &mut [u8]) -> u16
 pub fn count(map: &[u8]) -> Counted
     ensures { λ r. ⌜ r ≡ counted (now (map .entry)) ⌝ }
 {
-    if map.len() < 512 {
+    if 512 <= map.len() {
         return Counted {
-            number: 15,
-            count: 0,
+            number: 0,
+            count: set_bits(&map[..512]),
         };
     }
     Counted {
-        number: 0,
-        count: set_bits(&map[..512]),
+        number: 15,
+        count: 0,
     }
 }
 
