@@ -30,8 +30,8 @@ use Rattle.calls.proofs.Checks.{Sound, answer-is-first, validity-number
 use Rattle.calls.proofs.Room.{count-one-more}
 use Rattle.calls.proofs.Kept.{Kept}
 use Rattle.calls.proofs.Struck.{node-after-set, node-beside-set}
-use Rattle.calls.proofs.Grant.{grant-movable, grant-one-more, t-in-table, grant-in-order, grant-occupies, new-sizes}
-use Rattle.calls.proofs.Release.{release-movable, release-in-order, release-occupies, counts-before, level-in-fewer, fewer-counts-fit}
+use Rattle.calls.proofs.Granting.{grant-movable, grant-one-more, t-in-table, grant-in-order, grant-occupies, new-sizes}
+use Rattle.calls.proofs.Releasing.{release-movable, release-in-order, release-occupies, counts-before, level-in-fewer, fewer-counts-fit}
 use Rattle.calls.proofs.Cases.{both-zero, Granted, Released, Case, by-grant, by-release, by-refusal, case}
 use Rattle.calls.proofs.Box.{grants-do-not-release}
 

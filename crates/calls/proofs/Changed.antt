@@ -33,8 +33,8 @@ use Rattle.calls.specs.Value.{TenantsIn}
 use Rattle.calls.specs.Changes.{GrantPlannable, GrantPlanned, ReleasePlannable, ReleasePlanned}
 use Rattle.calls.proofs.Kept.{Kept, level-in-counts}
 use Rattle.calls.proofs.Accepted.{bookOf, kept-of-order}
-use Rattle.calls.proofs.Grant.{grant-movable, new-counts-fit}
-use Rattle.calls.proofs.Release.{release-movable, counts-before, level-in-fewer, fewer-counts-fit}
+use Rattle.calls.proofs.Granting.{grant-movable, new-counts-fit}
+use Rattle.calls.proofs.Releasing.{release-movable, counts-before, level-in-fewer, fewer-counts-fit}
 use Rattle.calls.proofs.Reported.{grant-moves-few, release-moves-few}
 
 -- a reserve has at most 4,096 pages

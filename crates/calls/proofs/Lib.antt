@@ -4,8 +4,8 @@ pub mod Checks
 pub mod Kept
 pub mod Answers
 pub mod Struck
-pub mod Grant
-pub mod Release
+pub mod Granting
+pub mod Releasing
 pub mod Cases
 pub mod Reported
 pub mod Box
@@ -14,3 +14,5 @@ pub mod Accepted
 pub mod Opening
 pub mod Carried
 pub mod Changed
+pub mod Changing
+pub mod Calling
