@@ -12,13 +12,14 @@ use lib.Seq.{length-take-le, length-front}
 use Rattle.calls.specs.Call.{Call, grant-level, grant-pages, release}
 use Rattle.table.specs.Table.{in-order?}
 use Rattle.calls.specs.Step.{Outcome as Result, Check, check, first, validity, holdings, checks, accepted, unless, step, reserve-checks, open-reserve}
-use Rattle.calls.specs.Value.{numberOf, valueOf}
+use Rattle.calls.specs.Value.{numberOf, answered, valueOf}
+use Rattle.calls.specs.declared.Answer.{Answer}
 use Rattle.calls.specs.declared.Called.{Called}
 use Rattle.calls.proofs.Opening.{opened-table, table-length}
 use Rattle.calls.proofs.Cases.{both-zero}
 use Rattle.calls.proofs.Checks.{validity-numbered, not-applied, rest-zero}
 use Rattle.reserve.specs.Image.{imageOf, tableOf, moveBytes}
-use Rattle.reserve.specs.Door.{imageAfter, listAfter, Reported, Enough}
+use Rattle.reserve.specs.Door.{Decoded, imageAfter, Reported, Enough}
 use Rattle.reserve.specs.declared.Outcome.{Outcome}
 use Rattle.reserve.proofs.Images.{table-of-other}
 
@@ -50,15 +51,15 @@ module _ (h : ℕ) (T : List ℕ) (c : Call) (e : step h T c .answer ≡ 0) wher
   not-1 : first (check 2 (not (eqb (length T) 4096)) ∷ (validity h c ++ by-table)) ≡ 0
   not-1 = rest-zero 1 (ltb 12 h) (check 2 (not (eqb (length T) 4096)) ∷ (validity h c ++ by-table)) (omega arith) none-applies
 
-  pub done-table : length T ≡ 4096
+  done-table : length T ≡ 4096
   done-table = eqb-true (length T) 4096 (not-false (eqb (length T) 4096) (not-applied 2 (not (eqb (length T) 4096)) (validity h c ++ by-table) (omega arith) not-1))
 
-  pub done-entries : 4 ≤ entriesOf c
+  done-entries : 4 ≤ entriesOf c
   done-entries =
       let later = rest-zero 2 (not (eqb (length T) 4096)) (validity h c ++ by-table) (omega arith) not-1 in
       valid-entries h c (both-zero (validity h c) by-table (validity-numbered h c) later .0)
 
-pub opening-table : (h : ℕ) (T : List ℕ) → open-reserve h T .answer ≡ 0 → length T ≡ 4096
+opening-table : (h : ℕ) (T : List ℕ) → open-reserve h T .answer ≡ 0 → length T ≡ 4096
 unfolding open-reserve
 opening-table h T e =
     let k = first (reserve-checks h T) in
@@ -74,28 +75,26 @@ image-whole image e = go (ℕ-discrete (length image) 8192)
 
 -- ---- a call on the front of an array
 
--- The first n entries of the array are the table of the image. The call puts those of its outcome in their place.
-pub record Through (image nodes after : List ℕ) (n : ℕ) (o : Result) : Type 0 where
-  pub few : n ≤ 4096
-  pub decoded : take n nodes ≡ tableOf image
-  pub long : length nodes ≡ 4096
-  pub kept : length after ≡ length (take n nodes)
-  pub table : o .table ≡ after
-  pub whole : o .answer ≡ 0 → length (tableOf image) ≡ 4096
+-- The first n entries of the array are the table of the image. The call has put those of its outcome in their place.
+record Through (image nodes after : List ℕ) (n : ℕ) (o : Result) : Type 0 where
+  before : Decoded image nodes n
+  kept : length after ≡ length (take n nodes)
+  table : o .table ≡ after
+  whole : o .answer ≡ 0 → length (tableOf image) ≡ 4096
 
 module _ {image nodes after : List ℕ} {n : ℕ} {o : Result} (t : Through image nodes after n o) where
-  pub array-length : length (after ++ drop n nodes) ≡ 4096
-  array-length = length-front nodes after n (t .kept) ∙ t .long
+  array-length : length (after ++ drop n nodes) ≡ 4096
+  array-length = length-front nodes after n (t .kept) ∙ t .before .long
 
-  pub image-length-done : o .answer ≡ 0 → length image ≡ 8192
+  image-length-done : o .answer ≡ 0 → length image ≡ 8192
   image-length-done z = image-whole image (t .whole z)
 
   -- an accepted call has changed the whole array
-  pub array-done : o .answer ≡ 0 → after ++ drop n nodes ≡ o .table
+  array-done : o .answer ≡ 0 → after ++ drop n nodes ≡ o .table
   array-done z =
-      let within : n ≤ length nodes = omega (arith, t .few, t .long) in
-      let all : n ≡ 4096 = omega (arith, length-take-le n nodes within, ap length (t .decoded), t .whole z) in
-      let none : drop n nodes ≡ [] = drop-of-length-le nodes {i = n} (omega (arith, t .long)) in
+      let within : n ≤ length nodes = omega (arith, t .before .few, t .before .long) in
+      let all : n ≡ 4096 = omega (arith, length-take-le n nodes within, ap length (t .before .front), t .whole z) in
+      let none : drop n nodes ≡ [] = drop-of-length-le nodes {i = n} (omega (arith, t .before .long)) in
       ap (λ (l : List ℕ). after ++ l) none ∙ append-nil after ∙ sym (t .table)
 
 -- ---- the report
@@ -127,16 +126,68 @@ same-report o o′ {image} {list} a n m t p = record {
     go (yes z) = rw (t z, a)
     go (no ne) = rw (← a, ne-eqb (o .answer) 0 ne)
 
-module _ {image nodes after : List ℕ} {n : ℕ} {o : Result} (t : Through image nodes after n o) (called : Called) (met : valueOf called after ≡ o) where
-  answer-met : numberOf (called .answer) ≡ o .answer
-  answer-met = ap (λ (x : Result). x .answer) met
+-- the count of a part that is lent
+pub front-count : {image nodes : List ℕ} {n : ℕ} → Decoded image nodes n → n ≡ length (take n nodes)
+front-count {image} {nodes} {n} d = sym (length-take-le n nodes (omega (arith, d .few, d .long)))
 
-  pub enough : (list : List ℕ) → (o .answer ≡ 0 → 24 ≤ length list) → Enough (numberOf (called .answer)) image list
-  enough list l = record { table = λ z. image-length-done t (sym answer-met ∙ z); moves = λ z. l (sym answer-met ∙ z) }
+-- a grant or release that was asked of the front of the array
+module _ (h : ℕ) (c : Call) (called : Called) {image nodes after : List ℕ} {n : ℕ} (d : Decoded image nodes n)
+    (kept : length after ≡ length (take n nodes)) (met : valueOf called after ≡ step h (take n nodes) c) where
+  met-on-table : valueOf called after ≡ step h (tableOf image) c
+  met-on-table = met ∙ ap (λ (T : List ℕ). step h T c) (d .front)
+
+  answer-met : numberOf (called .answer) ≡ step h (tableOf image) c .answer
+  answer-met = ap (λ (o : Result). o .answer) met-on-table
+
+  through : Through image nodes after n (step h (tableOf image) c)
+  through = record {
+    before = d;
+    kept = kept;
+    table = sym (ap (λ (o : Result). o .table) met-on-table);
+    whole = done-table h (tableOf image) c;
+  }
+
+  pub call-finishes : (list : List ℕ) → entriesOf c ≡ length list / 6
+      → (length (after ++ drop n nodes) ≡ 4096) × Enough (numberOf (called .answer)) image list
+  call-finishes list e = (
+    array-length through,
+    record {
+      table = λ z. image-length-done through (sym answer-met ∙ z);
+      moves = λ z. omega (arith, done-entries h (tableOf image) c (sym answer-met ∙ z));
+    },
+  )
 
   -- what is reported of the array is what is reported of the outcome
-  pub reported-met : {list : List ℕ} {r : Outcome} {image′ list′ : List ℕ} → Reported (valueOf called (after ++ drop n nodes)) image list r image′ list′
-      → Reported o image list r image′ list′
-  reported-met p =
-      same-report (valueOf called (after ++ drop n nodes)) o answer-met (ap (λ (x : Result). x .node) met) (ap (λ (x : Result). x .moves) met)
-      (λ z. array-done t (sym answer-met ∙ z)) p
+  pub call-reported : {list : List ℕ} {r : Outcome} {image′ list′ : List ℕ} → Reported (valueOf called (after ++ drop n nodes)) image list r image′ list′
+      → Reported (step h (tableOf image) c) image list r image′ list′
+  call-reported p =
+      same-report (valueOf called (after ++ drop n nodes)) (step h (tableOf image) c) answer-met (ap (λ (o : Result). o .node) met-on-table)
+      (ap (λ (o : Result). o .moves) met-on-table) (λ z. array-done through (sym answer-met ∙ z)) p
+
+-- an opening that was asked of the front of the array
+module _ (h : ℕ) (a : Answer) {image nodes after : List ℕ} {n k : ℕ} (d : Decoded image nodes n) (kept : length after ≡ length (take n nodes))
+    (met : answered a after ≡ open-reserve h (take n nodes)) (named : k ≡ numberOf a) where
+  open-on-table : answered a after ≡ open-reserve h (tableOf image)
+  open-on-table = met ∙ ap (open-reserve h) (d .front)
+
+  opened : Through image nodes after n (open-reserve h (tableOf image))
+  opened = record {
+    before = d;
+    kept = kept;
+    table = sym (ap (λ (o : Result). o .table) open-on-table);
+    whole = opening-table h (tableOf image);
+  }
+
+  pub open-answer : k ≡ open-reserve h (tableOf image) .answer
+  open-answer = named ∙ ap (λ (o : Result). o .answer) open-on-table
+
+  pub open-refused : ¬ (k ≡ 0) → image ≡ imageAfter (open-reserve h (tableOf image)) image
+  open-refused ne = rw (ne-eqb (open-reserve h (tableOf image) .answer) 0 (λ z. ne (open-answer ∙ z)))
+
+  pub open-finishes : k ≡ 0 → (length (after ++ drop n nodes) ≡ 4096) × (length image ≡ 8192)
+  open-finishes z = (array-length opened, image-length-done opened (sym open-answer ∙ z))
+
+  pub open-done : k ≡ 0 → imageOf (after ++ drop n nodes) ≡ imageAfter (open-reserve h (tableOf image)) image
+  open-done z =
+      let zero-answer = sym open-answer ∙ z in
+      rw (eq-eqb (open-reserve h (tableOf image) .answer) 0 zero-answer) (ap imageOf (array-done opened zero-answer))

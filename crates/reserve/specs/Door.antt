@@ -4,10 +4,16 @@ use mathlib.Core.Bool.{cond}
 use mathlib.Core.List.{List, _++_}
 use Prim.Native.Nat.{ℕ, _*_, _≤_}
 use lib.Dec.{eqb}
-use lib.ListN.{length, drop}
+use lib.ListN.{length, take, drop}
 use Rattle.calls.specs.Step.{Outcome as Result}
-use Rattle.reserve.specs.Image.{imageOf, moveBytes}
+use Rattle.reserve.specs.Image.{imageOf, tableOf, moveBytes}
 use Rattle.reserve.specs.declared.Outcome.{Outcome}
+
+-- the first n entries of the array are the table that the image stands for
+pub record Decoded (image nodes : List ℕ) (n : ℕ) : Type 0 where
+  pub few : n ≤ 4096
+  pub front : take n nodes ≡ tableOf image
+  pub long : length nodes ≡ 4096
 
 -- the image afterwards: that of the new table; a refusal leaves every byte
 abbrev pub imageAfter : Result → List ℕ → List ℕ

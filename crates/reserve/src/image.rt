@@ -2,10 +2,11 @@
 ghost use mathlib.Core.Path.{_≡_};
 ghost use mathlib.Core.List.{[], _∷_, _++_};
 ghost use Prim.Native.Nat.{_+_, _*_, _≤_};
-ghost use lib.ListN.{length, take, drop};
+ghost use lib.ListN.{length, drop};
 ghost use lib.Seq.{sets};
 ghost use Rattle.table.specs.Plan.{movesIn};
-ghost use Rattle.reserve.specs.Image.{imageOf, tableOf, moveBytes};
+ghost use Rattle.reserve.specs.Image.{imageOf, moveBytes};
+ghost use Rattle.reserve.specs.Door.{Decoded};
 use journal::put_word;
 use journal::word;
 use table::Move;
@@ -15,9 +16,7 @@ use table::plan::Plan;
 // bytes.
 pub fn decode(image: &[u8], nodes: &mut [u16; 4096]) -> usize
     requires { ⌜ length (now nodes) ≡ 4096 ⌝ }
-    ensures count { λ r. ⌜ r ≤ 4096 ⌝ }
-    ensures entries { λ r. ⌜ take r (now (nodes .exit)) ≡ tableOf (now (image .entry)) ⌝ }
-    ensures long { λ _. ⌜ length (now (nodes .exit)) ≡ 4096 ⌝ }
+    ensures { λ r. ⌜ Decoded (now (image .entry)) (now (nodes .exit)) r ⌝ }
 {
     if image.len() != 8192 {
         return 0;

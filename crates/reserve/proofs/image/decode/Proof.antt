@@ -18,7 +18,11 @@ abbrev μ-loop : tie.MeasureT-loop
 μ-loop image nodes₀ i₀ nodes i = 4096 - i
 
 returns : tie.Need-returns Inv-loop μ-loop
-returns c = (zero-le, (sym (table-of-other (c .before .before .args .image .now) (c .if1 .taken)), c .before .before .pre))
+returns c = record {
+  few = zero-le;
+  front = sym (table-of-other (c .before .before .args .image .now) (c .if1 .taken));
+  long = c .before .before .pre;
+}
 
 loop-holds : tie.Need-loop-holds Inv-loop μ-loop
 loop-holds c = (zero-le, refl, c .before .before .pre)
@@ -69,7 +73,7 @@ returns-2 c =
     let at-loop = c .before in
     let s = at-loop .before .before .before .args .image .now in
     let all : at-loop .loop .i ≡ 4096 = omega arith in
-    (omega arith, (decoded-all s (at-loop .loop .nodes) (omega arith) (rw all at (at-loop .loop .inv .1)), at-loop .loop .inv .2))
+    record { few = omega arith; front = decoded-all s (at-loop .loop .nodes) (omega arith) (rw all at (at-loop .loop .inv .1)); long = at-loop .loop .inv .2 }
 
 pub decode-spec : {M : Type 1} → statement M
 decode-spec =
