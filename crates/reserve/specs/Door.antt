@@ -7,7 +7,9 @@ use lib.Dec.{eqb}
 use lib.ListN.{length, take, drop}
 use Rattle.calls.specs.Step.{Outcome as Result}
 use Rattle.reserve.specs.Image.{imageOf, tableOf, moveBytes}
+use Rattle.pagemap.specs.declared.Counted.{Counted as Bits}
 use Rattle.reserve.specs.declared.Outcome.{Outcome}
+use Rattle.reserve.specs.declared.page_map.Counted.{Counted}
 
 -- the first n entries of the array are the table that the image stands for
 pub record Decoded (image nodes : List ℕ) (n : ℕ) : Type 0 where
@@ -35,3 +37,7 @@ pub record Reported (o : Result) (image list : List ℕ) (r : Outcome) (image′
 pub record Enough (answer : ℕ) (image list : List ℕ) : Type 0 where
   pub table : answer ≡ 0 → length image ≡ 8192
   pub moves : answer ≡ 0 → 24 ≤ length list
+
+-- the count of a map
+abbrev pub countOf : Bits → Counted
+countOf b = record { answer = b .number; count = b .count }
