@@ -30,16 +30,16 @@ use Rattle.calls.proofs.Checks.{Sound, answer-is-first, validity-number
 use Rattle.calls.proofs.Room.{count-one-more}
 use Rattle.calls.proofs.Kept.{Kept}
 use Rattle.calls.proofs.Struck.{node-after-set, node-beside-set}
-use Rattle.calls.proofs.Grant.{grant-movable, grant-one-more, t-in-table, grant-in-order, grant-occupies, new-sizes}
-use Rattle.calls.proofs.Release.{release-movable, release-in-order, release-occupies, counts-before, level-in-fewer, fewer-counts-fit}
+use Rattle.calls.proofs.Granting.{grant-movable, grant-one-more, t-in-table, grant-in-order, grant-occupies, new-sizes}
+use Rattle.calls.proofs.Releasing.{release-movable, release-in-order, release-occupies, counts-before, level-in-fewer, fewer-counts-fit}
 use Rattle.calls.proofs.Cases.{both-zero, Granted, Released, Case, by-grant, by-release, by-refusal, case}
 use Rattle.calls.proofs.Box.{grants-do-not-release}
 
 -- the book that a table in order gives
-abbrev bookOf : ℕ → List ℕ → Book
+abbrev pub bookOf : ℕ → List ℕ → Book
 bookOf h T t = cond (eqb (nodeAt T t) 0) none (some (level h (nodeAt T t)))
 
-kept-of-order : (h : ℕ) (T : List ℕ) → h ≤ 12 → length T ≡ 4096 → InOrder h T → Kept h T (bookOf h T)
+pub kept-of-order : (h : ℕ) (T : List ℕ) → h ≤ 12 → length T ≡ 4096 → InOrder h T → Kept h T (bookOf h T)
 kept-of-order h T q e o = record { height = q; entries = e; in-order = o; agrees = λ t. go t (eqb (nodeAt T t) 0) refl }
   where
     go : (t : ℕ) (b : Bool) → eqb (nodeAt T t) 0 ≡ b → Agrees h (cond b none (some (level h (nodeAt T t)))) (nodeAt T t)

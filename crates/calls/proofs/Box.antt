@@ -16,8 +16,8 @@ use Rattle.calls.proofs.Checks.{answer-not-valid}
 use Rattle.calls.proofs.Kept.{Kept, sound, within, held-is-size, only-safe-set, level-in-counts}
 use Rattle.calls.proofs.Answers.{holder-asks, other-asks, holder-releases, other-releases}
 use Rattle.calls.proofs.Struck.{node-after-set, node-beside-set}
-use Rattle.calls.proofs.Grant.{grant-kept, grant-movable, grant-one-more, t-in-table}
-use Rattle.calls.proofs.Release.{release-kept, release-movable, counts-before, level-in-fewer}
+use Rattle.calls.proofs.Granting.{grant-kept, grant-movable, grant-one-more, t-in-table}
+use Rattle.calls.proofs.Releasing.{release-kept, release-movable, counts-before, level-in-fewer}
 use Rattle.calls.proofs.Reported.{moves-are-changes, nothing-changes, grant-moves-few, release-moves-few}
 use Rattle.calls.proofs.Cases.{Granted, Released, Case, by-grant, by-release, by-refusal, case}
 

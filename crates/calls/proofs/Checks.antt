@@ -31,7 +31,7 @@ abbrev pub Numbered : List Check → Type 0
 Numbered [] = Unit {0}
 Numbered (c ∷ cs) = (0 < c .number) × Numbered cs
 
-first-after-none : (xs ys : List Check) → Numbered xs → first xs ≡ 0 → first (xs ++ ys) ≡ first ys
+pub first-after-none : (xs ys : List Check) → Numbered xs → first xs ≡ 0 → first (xs ++ ys) ≡ first ys
 first-after-none [] ys n e = refl
 first-after-none (c ∷ xs) ys n e = go (c .applies) e (first-after-none xs ys (n .1))
   where
@@ -39,7 +39,7 @@ first-after-none (c ∷ xs) ys n e = go (c .applies) e (first-after-none xs ys (
     go true z rest = absurd (omega (arith, n .0))
     go false z rest = rest z
 
-first-stands : (xs ys : List Check) → ¬ (first xs ≡ 0) → first (xs ++ ys) ≡ first xs
+pub first-stands : (xs ys : List Check) → ¬ (first xs ≡ 0) → first (xs ++ ys) ≡ first xs
 first-stands [] ys ne = absurd (ne refl)
 first-stands (c ∷ xs) ys ne = go (c .applies) ne (first-stands xs ys)
   where

@@ -1,6 +1,7 @@
 pub mod Call
 pub mod Step
-pub mod Value
 pub mod History
 pub mod Demand
 pub mod Accepted
+pub mod Changes
+pub mod Value

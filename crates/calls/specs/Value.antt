@@ -1,8 +1,13 @@
 -- What the functions' answers stand for: document 01's numbers and values.
 use mathlib.Core.List.{List, []}
-use Prim.Native.Nat.{ℕ}
+use Prim.Native.Nat.{ℕ, _≤_, _<_}
+use lib.ListN.{length, getD}
+use Rattle.table.specs.declared.plan.Plan.{Plan}
 use Rattle.calls.specs.Step.{Outcome}
+use Rattle.calls.specs.Accepted.{nobody}
+use Rattle.table.specs.Plan.{movesIn}
 use Rattle.calls.specs.declared.Answer.{Answer}
+use Rattle.calls.specs.declared.Called.{Called}
 use Rattle.calls.specs.declared.Answer.the-variants.{Done, Refused}
 
 -- 0 is done, else the refusal's number
@@ -18,3 +23,12 @@ nodeIn (Refused k) = 0
 -- an answer without moves, and the table afterwards
 abbrev pub answered : Answer → List ℕ → Outcome
 answered a T = record { answer = numberOf a; node = nodeIn a; moves = []; table = T }
+
+-- an answer with the moves of its plan, and the table afterwards
+abbrev pub valueOf : Called → List ℕ → Outcome
+valueOf r T = record { answer = numberOf (r .answer); node = nodeIn (r .answer); moves = movesIn (r .plan); table = T }
+
+-- a plan of at most four moves, of tenants that the table has
+pub record TenantsIn (T : List ℕ) (p : Plan) : Type 0 where
+  pub few : p .n ≤ 4
+  pub tenants : (i : ℕ) → i < p .n → getD (p .moves) i nobody .tenant < length T

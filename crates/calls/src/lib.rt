@@ -1,15 +1,38 @@
 // The calls of the reserve over a lent table: opening, grants by level and by pages, releases.
 ghost use mathlib.Core.Path.{_≡_};
-ghost use Rattle.calls.specs.Step.{open-reserve};
-ghost use Rattle.calls.specs.Value.{answered};
+ghost use mathlib.Core.List.{List};
+ghost use Prim.Native.Nat.{ℕ};
+ghost use Rattle.calls.specs.Step.{open-reserve, refused as refusal, step};
+ghost use Rattle.calls.specs.Call.{grant-level, grant-pages, release as release-by};
+ghost use Rattle.calls.specs.Value.{answered, valueOf};
+use table::plan::Plan;
 
-pub mod request;
+mod carry;
+mod change;
 mod clear;
+mod planning;
+pub mod request;
 
 // What a call reports: done, with the newcomer's node or the one given up (0 for an opening), or the number of its refusal.
 pub enum Answer {
     Done { node: u16 },
     Refused { number: u16 },
+}
+
+// What a grant or a release reports: its answer, and the moves that it made.
+pub struct Called {
+    pub answer: Answer,
+    pub plan: Plan,
+}
+
+// A refusal has no moves.
+fn refused(number: u16) -> Called
+    ensures { λ r. ⌜ ((T : List ℕ) → valueOf r T ≡ refusal number T) ⌝ }
+{
+    Called {
+        answer: Answer::Refused { number },
+        plan: Plan::none(),
+    }
 }
 
 // Opens a reserve on a lent table: every entry becomes 0.
@@ -22,4 +45,55 @@ pub fn open(height: u16, table: &mut [u16]) -> Answer
     }
     clear::clear(table);
     Answer::Done { node: 0 }
+}
+
+// Grants a tenant a block of a level; `entries` is how many entries the lent move list has.
+pub fn grant_level(
+    height: u16,
+    table: &mut [u16],
+    entries: usize,
+    tenant: u16,
+    level: u16,
+) -> Called
+    ensures { λ r. ⌜ valueOf r (now (table .exit)) ≡ step height (now (table .entry)) (grant-level tenant level entries) ⌝ }
+{
+    let number = request::refusal(height, table.len(), entries, tenant);
+    if number != 0 {
+        return refused(number);
+    }
+    if height < level {
+        return refused(5);
+    }
+    change::grant(height, table, tenant, level)
+}
+
+// Grants a tenant the smallest block that has so many pages.
+pub fn grant_pages(
+    height: u16,
+    table: &mut [u16],
+    entries: usize,
+    tenant: u16,
+    pages: u16,
+) -> Called
+    ensures { λ r. ⌜ valueOf r (now (table .exit)) ≡ step height (now (table .entry)) (grant-pages tenant pages entries) ⌝ }
+{
+    let number = request::refusal(height, table.len(), entries, tenant);
+    if number != 0 {
+        return refused(number);
+    }
+    if layout::power(height) < pages {
+        return refused(6);
+    }
+    change::grant(height, table, tenant, request::level_for(pages))
+}
+
+// Releases a tenant's block.
+pub fn release(height: u16, table: &mut [u16], entries: usize, tenant: u16) -> Called
+    ensures { λ r. ⌜ valueOf r (now (table .exit)) ≡ step height (now (table .entry)) (release-by tenant entries) ⌝ }
+{
+    let number = request::refusal(height, table.len(), entries, tenant);
+    if number != 0 {
+        return refused(number);
+    }
+    change::give_up(height, table, tenant)
 }

@@ -1,7 +1,7 @@
 // What a call's arguments ask for, and the refusals that they alone decide.
 ghost use mathlib.Core.Path.{_≡_};
 ghost use mathlib.Core.Bool.{not};
-ghost use mathlib.Core.List.{[], _∷_};
+ghost use mathlib.Core.List.{[], _∷_, _++_};
 ghost use lib.Dec.{eqb, ltb};
 ghost use Rattle.calls.specs.Call.{levelFor};
 ghost use Rattle.calls.specs.Step.{first, check, list-checks};
@@ -40,4 +40,15 @@ pub fn list_refusal(entries: usize, tenant: u16) -> u16
         return 4;
     }
     0
+}
+
+// The number of the first of refusals 1 to 4 that applies, or 0.
+pub fn refusal(height: u16, length: usize, entries: usize, tenant: u16) -> u16
+    ensures { λ r. ⌜ r ≡ first ((check 1 (ltb 12 height) ∷ check 2 (not (eqb length 4096)) ∷ []) ++ list-checks tenant entries) ⌝ }
+{
+    let number = reserve_refusal(height, length);
+    if number != 0 {
+        return number;
+    }
+    list_refusal(entries, tenant)
 }

@@ -21,6 +21,7 @@ pub mod Below
 pub mod Levels
 pub mod Rows
 pub mod RowCases
+pub mod RowsWithin
 pub mod Expected
 pub mod Writing
 pub mod Climbing

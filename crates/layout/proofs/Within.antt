@@ -22,7 +22,7 @@ le-of-pow-le l h p = go (decLe l h)
     go (no q) = let lt : 2 ^ h < 2 ^ l = pow-lt (omega arith) in absurd (omega arith)
 
 -- a multiple of 2^l that is less than 2^l over 2^h is not over it at all
-multiple-fits : (l h x : ℕ) → l ≤ h → x * 2 ^ l < 2 ^ h + 2 ^ l → x * 2 ^ l ≤ 2 ^ h
+pub multiple-fits : (l h x : ℕ) → l ≤ h → x * 2 ^ l < 2 ^ h + 2 ^ l → x * 2 ^ l ≤ 2 ^ h
 multiple-fits l h x q p =
     let e : 2 ^ (h - l) * 2 ^ l ≡ 2 ^ h = rw (← pow-add, sub-add-cancel q) in
     let lt : x < suc (2 ^ (h - l)) = lt-of-mul-lt-mul-right (2 ^ l) (omega arith) in
@@ -30,11 +30,11 @@ multiple-fits l h x q p =
     omega arith
 
 -- The subtrees in use are no more than the p pages placed so far ask for, rounded up; and a lone block is among those pages.
-data Tight (l p : ℕ) : State → Type 0 where
+pub data Tight (l p : ℕ) : State → Type 0 where
   full-tight : {u : ℕ} → u * 2 ^ l < p + 2 ^ l → Tight l p (full u)
   lone-tight : {v j k : ℕ} → suc v * 2 ^ l < p + 2 ^ l → 2 ^ j ≤ p → Tight l p (lone v j k)
 
-place-tight : (l p : ℕ) {s : State} (c : ℕ) → Tight l p s → Tight l (p + c * 2 ^ l) (place l s c)
+pub place-tight : (l p : ℕ) {s : State} (c : ℕ) → Tight l p s → Tight l (p + c * 2 ^ l) (place l s c)
 place-tight l p zero (full-tight {u = u} h) = full-tight {u = u} (omega arith)
 place-tight l p (suc c) (full-tight {u = u} h) = lone-tight {v = u + c} {j = l} {k = 0} (omega arith) (omega arith)
 place-tight l p c (lone-tight {v = v} {j = j} {k = k} h q) = lone-tight {v = v + c} {j = j} {k = k} (omega arith) (omega arith)
@@ -51,11 +51,11 @@ rise-tight l p (lone-settles {v = v} {w = w} e) (lone-tight h q) =
     let up : suc v * 2 ^ l ≡ suc w * 2 ^ suc l = double-pages (suc w) l (omega arith) in
     full-tight {u = suc w} (omega arith)
 
-tight-start : (l p : ℕ) {s : State} → Tight l p s → start s * 2 ^ l < p + 2 ^ l
+pub tight-start : (l p : ℕ) {s : State} → Tight l p s → start s * 2 ^ l < p + 2 ^ l
 tight-start l p (full-tight h) = h
 tight-start l p (lone-tight h q) = omega arith
 
-next-tight : (l p : ℕ) {s : State} (c : ℕ) → Tight l p s → Tight (suc l) (p + c * 2 ^ l) (rise (place l s c))
+pub next-tight : (l p : ℕ) {s : State} (c : ℕ) → Tight l p s → Tight (suc l) (p + c * 2 ^ l) (rise (place l s c))
 next-tight l p {s} c t = rise-tight l (p + c * 2 ^ l) (rises (place l s c)) (place-tight l p c t)
 
 -- the last subtree in use does not lie in the tree only if it is higher than the tree; then it is the first, and its lone block fits

@@ -9,7 +9,7 @@ ghost use Rattle.layout.specs.Rows.{rowsOf, inRow, holdsNode, kthIndex, 
 ghost use Rattle.layout.specs.Climb.{stateOf, mark};
 
 // What stands for an index, or for a level, where there is none.
-const NONE: u16 = 65_535;
+pub const NONE: u16 = 65_535;
 
 // How many blocks each level has.
 pub struct Counts {
@@ -173,7 +173,7 @@ impl Layout {
 }
 
 // Whether i is one of the `run` indices from `start` on, or is `lone`.
-fn in_row(start: u16, run: u16, lone: u16, i: u16) -> bool
+pub fn in_row(start: u16, run: u16, lone: u16, i: u16) -> bool
     ensures { λ r. ⌜ r ≡ inRow start run lone i ⌝ }
 {
     if i < start {
@@ -199,7 +199,7 @@ fn kth_index(start: u16, run: u16, lone: u16, k: u16) -> u32
 }
 
 // 2 to the power e.
-fn power(e: u16) -> u16
+pub fn power(e: u16) -> u16
     requires { ⌜ e ≤ 12 ⌝ }
     ensures { λ r. ⌜ r ≡ 2 ^ e ⌝ }
 {

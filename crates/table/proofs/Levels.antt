@@ -88,7 +88,7 @@ level-counts-together h o p =
 
 -- ---- the owners of a table with all its nodes in a tree of height h
 
-length-owners : (o : List ℕ) (i : ℕ) (T : List ℕ) → length (ownersFrom o i T) ≡ length o
+pub length-owners : (o : List ℕ) (i : ℕ) (T : List ℕ) → length (ownersFrom o i T) ≡ length o
 unfolding ownersFrom
 length-owners o i [] = refl
 length-owners o i (x ∷ T) = length-owners (set o (nodeOf x) (suc i)) (suc i) T ∙ length-set o (nodeOf x) (suc i)

@@ -14,3 +14,8 @@ pub mod Tabulate
 pub mod Once
 pub mod Owners
 pub mod Levels
+pub mod Least
+pub mod Shifting
+pub mod RowNodes
+pub mod Planning
+pub mod PlanLaws

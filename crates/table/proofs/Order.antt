@@ -29,7 +29,7 @@ tabulate-length : (i n : ℕ) (f : ℕ → ℕ) → length (tabulate i n f) ≡ 
 tabulate-length i zero f = refl
 tabulate-length i (suc n) f = ap suc (tabulate-length (suc i) n f)
 
-tabulate-at : (i n : ℕ) (f : ℕ → ℕ) (l : ℕ) → l < n → getD (tabulate i n f) l 0 ≡ f (i + l)
+pub tabulate-at : (i n : ℕ) (f : ℕ → ℕ) (l : ℕ) → l < n → getD (tabulate i n f) l 0 ≡ f (i + l)
 tabulate-at i zero f l q = absurd (omega arith)
 tabulate-at i (suc n) f zero q = ap f (omega arith)
 tabulate-at i (suc n) f (suc l) q = tabulate-at (suc i) n f l (omega arith) ∙ ap f (omega arith)
@@ -63,16 +63,19 @@ module _ (h : ℕ) (T : List ℕ) (below : (t : ℕ) → nodeAt T t < 2 ^ suc h)
       by-value n true v = rw (lt-ltb 0 n (occupied-above-zero T n v))
       by-value n false v = refl
 
--- ---- a table in order
-
--- Up to height 12 the thirteen counts are the sizes of all levels.
-module _ (h : ℕ) (T : List ℕ) (low : h ≤ 12) (o : InOrder h T) where
-  pub in-order-counts : (l : ℕ) → sizes h (occupied T) l ≡ getD (countsOf h T) l 0
-  in-order-counts l =
+  -- up to height 12 the thirteen counts are the sizes of all levels
+  pub sizes-are-counts : h ≤ 12 → Once T → (l : ℕ) → sizes h (occupied T) l ≡ getD (countsOf h T) l 0
+  sizes-are-counts low once l =
       elim (decLt l 13) [
-        | yes q ↦ sym (counts-at h T l q ∙ tenants-are-sizes h T (o .in-tree) (o .once) l)
+        | yes q ↦ sym (counts-at h T l q ∙ tenants-are-sizes once l)
         | no q ↦ sizes-above h (occupied T) l (omega arith) ∙ sym (counts-past h T l (omega arith))
       ]
+
+-- ---- a table in order
+
+module _ (h : ℕ) (T : List ℕ) (low : h ≤ 12) (o : InOrder h T) where
+  pub in-order-counts : (l : ℕ) → sizes h (occupied T) l ≡ getD (countsOf h T) l 0
+  in-order-counts = sizes-are-counts h T (o .in-tree) low (o .once)
 
   pub in-order-fits : pages (countsOf h T) ≤ 2 ^ h
   in-order-fits = legal-set-fits h (countsOf h T) (occupied T) (occupied-in-tree h T (o .in-tree)) (o .legal) in-order-counts
@@ -114,7 +117,7 @@ module _ (h : ℕ) (T cs : List ℕ) (fits : pages cs ≤ 2 ^ h) (same : (n : �
 
 -- ---- the test
 
-all-below-at : (n : ℕ) (p : ℕ → Bool) → all-below n p ≡ true → (i : ℕ) → i < n → p i ≡ true
+pub all-below-at : (n : ℕ) (p : ℕ → Bool) → all-below n p ≡ true → (i : ℕ) → i < n → p i ≡ true
 unfolding all-below
 all-below-at zero p e i q = absurd (omega arith)
 all-below-at (suc n) p e i q =
@@ -124,7 +127,7 @@ all-below-at (suc n) p e i q =
       | no d ↦ all-below-at n p (parts .1) i (omega arith)
     ]
 
-all-below-of : (n : ℕ) (p : ℕ → Bool) → ((i : ℕ) → i < n → p i ≡ true) → all-below n p ≡ true
+pub all-below-of : (n : ℕ) (p : ℕ → Bool) → ((i : ℕ) → i < n → p i ≡ true) → all-below n p ≡ true
 unfolding all-below
 all-below-of zero p f = refl
 all-below-of (suc n) p f = ap₂ _&&_ (f n (omega arith)) (all-below-of n p (λ i q. f i (omega arith)))

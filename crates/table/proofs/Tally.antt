@@ -1,6 +1,6 @@
 -- Laws of `stands`, `occupied` and `tally`: who is on a node, and how many entries of a table pass a test of their node.
 use mathlib.Core.Path.{_≡_, refl, sym, ap, ap₂, _∙_}
-use mathlib.Core.Bool.{Bool, true, false, not, _&&_, _||_, false≢true, and-eq-true-iff, and-true, and-false, or-true}
+use mathlib.Core.Bool.{Bool, true, false, _&&_, _||_, false≢true, and-eq-true-iff, and-true, and-false, or-true}
 use mathlib.Core.Logic.{_↔_}
 use mathlib.Core.List.{List, [], _∷_}
 use Prim.Native.Nat.{ℕ, zero, suc, _+_, _≤_, _<_}
@@ -12,7 +12,7 @@ use lib.ListN.{length, List·getD-eq-default}
 use Rattle.tree.specs.Held.{one-if, count}
 use Rattle.tree.specs.Pages.{sum}
 use Rattle.tree.proofs.Sum.{sum-cong, sum-of-zeros, sum-swap, count-as-sum, count-of-none, count-le-one}
-use Rattle.tree.proofs.Count.{equal-differences, count-of-one, count-of-two, onlyFirst, fails-second}
+use Rattle.tree.proofs.Count.{count-of-one, count-of-two, equal-counts-converse}
 use Rattle.layout.proofs.Pages.{sum-first}
 use Rattle.table.specs.Table.{nodeOf, nodeAt, stands, occupied, tally}
 
@@ -82,16 +82,7 @@ tally-agrees p q T e = tally-as-sum p T ∙ sum-cong (length T) (λ t r. ap one-
 
 -- as many numbers pass as there are: all pass
 count-of-all : (n : ℕ) (p : ℕ → Bool) → count n p ≡ count n (λ i. true) → (i : ℕ) → i < n → p i ≡ true
-count-of-all n p e i q = by-value (p i) refl
-  where
-    none-only-passes : count n (onlyFirst p (λ i. true)) ≡ 0
-    none-only-passes = count-of-none n (onlyFirst p (λ i. true)) (λ k r f. fails-second (p k) true f refl)
-
-    by-value : (b : Bool) → p i ≡ b → p i ≡ true
-    by-value true v = v
-    by-value false v =
-        let fails : onlyFirst (λ i. true) p i ≡ true = ap not v in
-        absurd (omega (arith, none-only-passes, equal-differences n p (λ i. true) e, count-of-one n (onlyFirst (λ i. true) p) i q fails))
+count-of-all n p e i q = equal-counts-converse n p (λ i. true) e (λ k v. refl) i q refl
 
 pub all-pass : (p : ℕ → Bool) (T : List ℕ) → tally p T ≡ tally (λ n. true) T → (t : ℕ) → t < length T → p (nodeAt T t) ≡ true
 all-pass p T e =

@@ -17,7 +17,7 @@ use Rattle.table.proofs.Distinct.{Distinct, at-place}
 use Rattle.table.proofs.Moved.{Movable, moved-length, moved-nothing}
 use Rattle.table.proofs.Moves.{Moves, of-moves, move-of, distinct-tenants}
 
-written-length : (T : List ℕ) (ms : List Move) → length (written T ms) ≡ length T
+pub written-length : (T : List ℕ) (ms : List Move) → length (written T ms) ≡ length T
 unfolding written
 written-length T [] = refl
 written-length T (m ∷ ms) = written-length (set T (m .tenant) (m .to)) ms ∙ length-set T (m .tenant) (m .to)

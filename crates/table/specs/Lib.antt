@@ -1,3 +1,4 @@
 pub mod Table
 pub mod Pairing
 pub mod Owners
+pub mod Plan

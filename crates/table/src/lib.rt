@@ -1,6 +1,7 @@
 // The table of tenants: what it holds, whether it is in order, and who goes where when the layout changes.
 
 pub mod passes;
+pub mod plan;
 
 // A tenant that moves: its number, its old node and its new one.
 pub struct Move {

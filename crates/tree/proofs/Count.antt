@@ -1,10 +1,11 @@
 -- Two tests with equal counts: as many numbers pass only the first as pass only the second. And what a count of one or two says.
-use mathlib.Core.Path.{_≡_, refl, sym}
+use mathlib.Core.Path.{_≡_, refl, sym, _∙_}
 use mathlib.Core.Bool.{Bool, true, false, not, false≢true}
 use Prim.Native.Nat.{ℕ, zero, suc, _+_, _<_}
 use native.Mathlib.Omega.{arith}
 use native.Mathlib.Decide.{ℕ-discrete}
 use Rattle.tree.specs.Held.{both, one-if, count}
+use Rattle.tree.proofs.Sum.{count-of-none}
 
 -- ---- two Boolean values
 
@@ -85,3 +86,18 @@ one-of-count (suc n) f c = by-last (f n) refl (one-of-count n f)
         let c′ : 0 < one-if false + count n f = rw e at c in
         let r = ih (omega arith) in
         (r .0, omega arith, r .2)
+
+-- ---- two tests with equal counts of which the first implies the second: the second implies the first
+
+pub equal-counts-converse : (n : ℕ) (f g : ℕ → Bool) → count n f ≡ count n g → ((i : ℕ) → f i ≡ true → g i ≡ true)
+    → (i : ℕ) → i < n → g i ≡ true → f i ≡ true
+equal-counts-converse n f g e implies i q p = by-value (f i) refl
+  where
+    none-only-first : count n (onlyFirst f g) ≡ 0
+    none-only-first = count-of-none n (onlyFirst f g) (λ k r s. fails-second (f k) (g k) s (implies k (passes-first (f k) (g k) s)))
+
+    by-value : (b : Bool) → f i ≡ b → f i ≡ true
+    by-value true v = v
+    by-value false v =
+        let only-second : onlyFirst g f i ≡ true = passes-only-first (g i) (f i) p (λ t. false≢true (sym v ∙ t)) in
+        absurd (omega (arith, none-only-first, equal-differences n f g e, count-of-one n (onlyFirst g f) i q only-second))

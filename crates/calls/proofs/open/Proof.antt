@@ -32,7 +32,7 @@ returns-2 c =
     let checked = called .reserve-refusal .ensures in
     let none : k ≡ 0 = c .before .before .before .before .if1 .left in
     let cleared : c .before .before .clear .last .0 ≡ replicate 4096 0 =
-        c .before .before .clear .ensures ∙ ap (λ (n : ℕ). replicate n 0) (table-length (start .args .height) T k checked none) in
+    c .before .before .clear .ensures ∙ ap (λ (n : ℕ). replicate n 0) (table-length (start .args .height) T k checked none) in
     ap (λ (l : List ℕ). record { answer = 0; node = 0; moves = []; table = l }) cleared ∙ opening-done (start .args .height) T k checked none
 
 pub open-spec : {M : Type 1} → statement M

@@ -37,8 +37,7 @@ loop-again c =
     let at-loop = c .before in
     let t₀ = at-loop .before .args .table .now in
     let i = at-loop .loop .i in
-    let below : i < length t₀ = omega arith in
-    (
+    let below : i < length t₀ = omega arith in (
       ap (λ (l : List ℕ). set l i 0) (at-loop .loop .inv .0) ∙ fill-more i 0 t₀ below,
       omega arith,
       length-set (at-loop .loop .table) i 0 ∙ at-loop .loop .inv .2,

@@ -24,7 +24,7 @@ use Rattle.calls.specs.History.{Book, write}
 use Rattle.calls.specs.Demand.{Agrees}
 use Rattle.calls.proofs.Room.{pages-one-more}
 use Rattle.calls.proofs.Kept.{Kept}
-use Rattle.calls.proofs.Grant.{agrees-moved}
+use Rattle.calls.proofs.Granting.{agrees-moved}
 use Rattle.calls.proofs.Struck.{one-more-one-fewer, node-after-set, node-beside-set, struck-in-tree, struck-once, level-in-counts, holder-counted, struck-sizes}
 
 module _ (h : ℕ) (T : List ℕ) (B : Book) (K : Kept h T B) (t : ℕ) (t<4096 : t < 4096) (holds : 0 < nodeAt T t) where

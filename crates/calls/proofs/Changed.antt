@@ -1,0 +1,133 @@
+-- The planner may be asked in every grant and release that is accepted, and what it plans is what the value-level call says.
+use mathlib.Core.Path.{_≡_, refl, sym, ap, ap₂, _∙_}
+use mathlib.Core.Bool.{Bool, true, false, cond}
+use mathlib.Core.List.{List}
+use Prim.Native.Nat.{ℕ, suc, _+_, _^_, _≤_, _<_}
+use native.Mathlib.Nat.{le-trans}
+use native.Mathlib.Omega.{arith}
+use borrow.Author.Tests.{le-leb}
+use lib.Dec.{leb}
+use lib.ListN.{length, getD, set}
+use lib.Seq.{getD-take}
+use lib.Pow.{pow-mono}
+use Rattle.tree.specs.Node.{level}
+use Rattle.tree.specs.Held.{Nodes}
+use Rattle.layout.specs.Layout.{pages}
+use Rattle.layout.specs.Set.{layoutSet}
+use Rattle.layout.specs.Change.{oneMore, oneFewer}
+use Rattle.layout.specs.Rows.{rowsOf}
+use Rattle.table.specs.Table.{nodeAt, occupied, countsOf, tenantsAt, InOrder}
+use Rattle.table.specs.Owners.{ownersOf}
+use Rattle.table.specs.Pairing.{newcomer, moved, movesOf, written}
+use Rattle.table.specs.Plan.{movesIn, AllPlanned}
+use Rattle.table.specs.declared.plan.Plan.{Plan}
+use Rattle.table.specs.declared.plan.Planned.{Planned}
+use Rattle.table.proofs.Used.{tally-le-length}
+use Rattle.table.proofs.Order.{counts-at, in-order-fits}
+use Rattle.table.proofs.Moves.{moves-in-list}
+use Rattle.table.proofs.Written.{written-is-moved}
+use Rattle.table.proofs.PlanLaws.{Replan, plannable, plan-of-table, stored-owners, grant-replan, release-replan}
+use Rattle.calls.specs.Step.{granted, released}
+use Rattle.calls.specs.Accepted.{nobody}
+use Rattle.calls.specs.Value.{TenantsIn}
+use Rattle.calls.specs.Changes.{GrantPlannable, GrantPlanned, ReleasePlannable, ReleasePlanned}
+use Rattle.calls.proofs.Kept.{Kept, level-in-counts}
+use Rattle.calls.proofs.Accepted.{bookOf, kept-of-order}
+use Rattle.calls.proofs.Granting.{grant-movable, new-counts-fit}
+use Rattle.calls.proofs.Releasing.{release-movable, counts-before, level-in-fewer, fewer-counts-fit}
+use Rattle.calls.proofs.Reported.{grant-moves-few, release-moves-few}
+
+-- a reserve has at most 4,096 pages
+pages-below : (h n : ℕ) → h ≤ 12 → n ≤ 2 ^ h → n ≤ 4096
+pages-below h n q p = le-trans p (pow-mono q)
+
+-- no level has more blocks than the table has entries
+count-below : (h : ℕ) (T : List ℕ) (l : ℕ) → l < 13 → getD (countsOf h T) l 0 ≤ length T
+unfolding tenantsAt
+count-below h T l q = rw (counts-at h T l q) (tally-le-length _ T)
+
+-- a plan's tenants are in the table that it was made for
+tenants-of-plan : {h : ℕ} {cs ds : List ℕ} {gone : ℕ} {T owners : List ℕ} (p : Replan h cs ds gone T owners) (x : ℕ) (r : Planned)
+    → AllPlanned h (rowsOf cs) (rowsOf ds) gone x owners r → TenantsIn T (r .plan)
+tenants-of-plan {h} {cs} {ds} {gone} {T} {owners} p x r planned =
+    let q = plan-of-table p x r planned in
+    record {
+      few = rw (q .1) (p .few);
+      tenants = λ i i<n.
+          rw (← (getD-take (r .plan .n) (r .plan .moves) i nobody i<n), q .0)
+          (moves-in-list (p .movable) nobody i (rw (q .1) at i<n) .in-table);
+    }
+
+module _ (h : ℕ) (T : List ℕ) (h≤12 : h ≤ 12) (entries : length T ≡ 4096) (order : InOrder h T) where
+  kept : Kept h T (bookOf h T)
+  kept = kept-of-order h T h≤12 entries order
+
+  -- ---- a grant
+
+  module _ (t l : ℕ) (t<4096 : t < 4096) (nothing : nodeAt T t ≡ 0) (l≤h : l ≤ h) (fits : pages (countsOf h T) + 2 ^ l ≤ 2 ^ h) where
+    abbrev more : List ℕ
+    more = oneMore (countsOf h T) l
+
+    grant-asked : Replan h (countsOf h T) more 0 T (ownersOf 8192 T)
+    grant-asked =
+        let B = bookOf h T in
+        let M = grant-movable h T B kept t l t<4096 nothing l≤h fits in
+        let few = grant-moves-few h T l h≤12 order (level-in-counts h T B kept l l≤h) M in
+        grant-replan h T h≤12 order l (ownersOf 8192 T) (stored-owners h T h≤12 order)
+        (new-counts-fit h T B kept t l t<4096 nothing l≤h fits) M (omega (arith, few))
+
+    pub grant-plannable : GrantPlannable h (countsOf h T) l (ownersOf 8192 T)
+    grant-plannable = record {
+      below = omega (arith, count-below h T l (omega arith));
+      old-fits = pages-below h (pages (countsOf h T)) h≤12 (in-order-fits h T h≤12 order);
+      new-fits = pages-below h (pages more) h≤12 (grant-asked .new-fits);
+      plannable = plannable grant-asked;
+    }
+
+    module _ (r : Planned) (planned : GrantPlanned h (countsOf h T) l (ownersOf 8192 T) r) where
+      pub grant-tenants : TenantsIn T (r .plan)
+      grant-tenants = tenants-of-plan grant-asked l r planned
+
+      pub grant-value : record { answer = 0; node = r .node; moves = movesIn (r .plan); table = set (written T (movesIn (r .plan))) t (r .node) }
+          ≡ granted h T (layoutSet h more) t l
+      grant-value =
+          let p = plan-of-table grant-asked l r planned in
+          let node : r .node ≡ newcomer h (occupied T) (layoutSet h more) l = p .2 ∙ rw (le-leb l h l≤h) in
+          let table : written T (movesIn (r .plan)) ≡ moved h (layoutSet h more) T =
+          ap (written T) (p .0) ∙ written-is-moved (grant-asked .movable) in
+          λ i. record { answer = 0; node = node i; moves = p .0 i; table = set (table i) t (node i) }
+
+  -- ---- a release
+
+  module _ (t : ℕ) (t<4096 : t < 4096) (holds : 0 < nodeAt T t) where
+    abbrev fewer : List ℕ
+    fewer = oneFewer (countsOf h T) (level h (nodeAt T t))
+
+    release-asked : Replan h (countsOf h T) fewer (nodeAt T t) (set T t 0) (ownersOf 8192 T)
+    release-asked =
+        let B = bookOf h T in
+        let x = level h (nodeAt T t) in
+        let M = release-movable h T B kept t t<4096 holds in
+        let before = counts-before h T B kept t t<4096 holds in
+        let few = release-moves-few h T t x fewer h≤12 order (level-in-fewer h T B kept t t<4096 holds) before M in
+        release-replan h T h≤12 order x t (ownersOf 8192 T) fewer (stored-owners h T h≤12 order) before
+        (fewer-counts-fit h T B kept t t<4096 holds) (rw entries t<4096) M few
+
+    pub release-plannable : ReleasePlannable h (countsOf h T) (nodeAt T t) (ownersOf 8192 T)
+    release-plannable = record {
+      old-fits = pages-below h (pages (countsOf h T)) h≤12 (in-order-fits h T h≤12 order);
+      new-fits = pages-below h (pages fewer) h≤12 (release-asked .new-fits);
+      plannable = plannable release-asked;
+    }
+
+    module _ (r : Planned) (planned : ReleasePlanned h (countsOf h T) (nodeAt T t) (ownersOf 8192 T) r) where
+      pub release-tenants : TenantsIn (set T t 0) (r .plan)
+      release-tenants = tenants-of-plan release-asked 13 r planned
+
+      pub release-value : record { answer = 0; node = nodeAt T t; moves = movesIn (r .plan); table = written (set T t 0) (movesIn (r .plan)) }
+          ≡ released h T (layoutSet h fewer) t
+      release-value =
+          let p = plan-of-table release-asked 13 r planned in
+          let table : written (set T t 0) (movesIn (r .plan)) ≡ moved h (layoutSet h fewer) (set T t 0) =
+          ap (written (set T t 0)) (p .0) ∙ written-is-moved (release-asked .movable) in
+          λ i. record { answer = 0; node = nodeAt T t; moves = p .0 i; table = table i }

@@ -1,0 +1,80 @@
+// A grant and a release whose arguments are valid: what the table decides, and the table changed.
+ghost use mathlib.Core.Path.{_≡_};
+ghost use Prim.Native.Nat.{_+_, _^_, _≤_};
+ghost use lib.Dec.{leb};
+ghost use Rattle.layout.specs.Layout.{pages};
+ghost use Rattle.calls.specs.Value.{valueOf};
+ghost use Rattle.calls.specs.Changes.{Ready, grantOn, releaseOn};
+use crate::Answer;
+use crate::Called;
+use crate::carry::carry_out;
+use crate::planning::plan_grant;
+use crate::planning::plan_release;
+use crate::refused;
+use layout::Counts;
+
+// Whether the reserve has room for one block more on the level.
+fn has_room(height: u16, counts: Counts, level: u16) -> bool
+    requires { ⌜ (height ≤ 12) × (level ≤ 12) × (pages (counts .at) ≤ 4096) ⌝ }
+    ensures { λ r. ⌜ r ≡ leb (pages (counts .at) + 2 ^ level) (2 ^ height) ⌝ }
+{
+    let all = layout::power(height) as u32;
+    let more = layout::power(level) as u32;
+    let held = counts.total();
+    held + more <= all
+}
+
+// Grants the tenant a block of the level, unless the table refuses it.
+pub fn grant(height: u16, table: &mut [u16], tenant: u16, level: u16) -> Called
+    requires { ⌜ Ready height (now table) tenant level ⌝ }
+    ensures { λ r. ⌜ valueOf r (now (table .exit)) ≡ grantOn height (now (table .entry)) tenant level ⌝ }
+{
+    let mut owners = [0u16; 8192];
+    let found = survey::survey(height, table, &mut owners);
+    if !found.in_order {
+        return refused(7);
+    }
+    let t = tenant as usize;
+    if table[t] != 0 {
+        return refused(8);
+    }
+    let counts = found.counts;
+    if !has_room(height, counts, level) {
+        return refused(10);
+    }
+    let planned = plan_grant(height, counts, level, &owners);
+    let node = planned.node;
+    let plan = planned.plan;
+    carry_out(table, plan);
+    table[t] = node;
+    Called {
+        answer: Answer::Done { node },
+        plan,
+    }
+}
+
+// Releases the tenant's block, unless the table refuses it.
+pub fn give_up(height: u16, table: &mut [u16], tenant: u16) -> Called
+    requires { ⌜ Ready height (now table) tenant 0 ⌝ }
+    ensures { λ r. ⌜ valueOf r (now (table .exit)) ≡ releaseOn height (now (table .entry)) tenant ⌝ }
+{
+    let mut owners = [0u16; 8192];
+    let found = survey::survey(height, table, &mut owners);
+    if !found.in_order {
+        return refused(7);
+    }
+    let t = tenant as usize;
+    let node = table[t];
+    if node == 0 {
+        return refused(9);
+    }
+    let counts = found.counts;
+    let planned = plan_release(height, counts, node, &owners);
+    let plan = planned.plan;
+    table[t] = 0;
+    carry_out(table, plan);
+    Called {
+        answer: Answer::Done { node },
+        plan,
+    }
+}

@@ -1,0 +1,5 @@
+pub mod Same
+pub mod Owned
+pub mod Looked
+pub mod InOrder
+pub mod Gathered

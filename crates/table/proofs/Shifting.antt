@@ -1,0 +1,113 @@
+-- One level's moves: what is paired after each turn of the loop over the two rows, and that at its end everything is.
+use mathlib.Core.Path.{_≡_, refl, sym, _∙_}
+use mathlib.Core.Bool.{Bool, true, not, and-eq-true-iff}
+use mathlib.Core.Logic.{_⊎_, inl, inr}
+use mathlib.Core.List.{List, [], _∷_, _++_, map, append-nil, append-assoc}
+use Prim.Native.Nat.{ℕ, suc, _+_, _≤_, _<_}
+use native.Mathlib.Numerals.{add-one}
+use native.Mathlib.Omega.{arith}
+use lib.ListN.{length, getD}
+use Rattle.layout.specs.Runs.{Near}
+use Rattle.layout.specs.Rows.{no-index}
+use Rattle.table.specs.Pairing.{Shift, pair}
+use Rattle.table.specs.Plan.{rowHolds, onlyIn, onlyFrom, leastOnly, movesIn, nodesAt, levelShifts, spareIndex, moveOf}
+use Rattle.table.specs.Plan.{LevelShifted}
+use Rattle.table.specs.declared.plan.Row.{Row}
+use Rattle.table.specs.declared.plan.Plan.{Plan}
+use Rattle.table.proofs.Least.{Found, least-found, only-none, only-cons, only-from-least, found-is-least}
+
+pub near-turned : {i n i′ n′ : ℕ} → Near i n i′ n′ → Near i′ n′ i n
+near-turned q = record { begin-back = q .begin-on; begin-on = q .begin-back; end-back = q .end-on; end-on = q .end-back }
+
+from-zero : {p : ℕ → Bool} {a b : ℕ} → Found p a b → Found p 0 b
+from-zero s = record { from = omega arith; fits = s .fits; passes = s .passes }
+
+-- the shift from index i to index j of the level whose first node is b
+abbrev pub shiftAt : ℕ → ℕ → ℕ → Shift
+shiftAt b i j = record { from = b + i; to = b + j }
+
+-- what is left to pair, from index i of the old row and index j of the new one on
+pub restShifts : ℕ → Row → Row → ℕ → ℕ → List Shift
+restShifts b v w i j = pair (nodesAt b (onlyFrom v w i)) (nodesAt b (onlyFrom w v j))
+
+-- The plan so far with what is left is the plan before with the whole level; i and j are the next to pair, or none.
+pub record Shifting (b : ℕ) (v w : Row) (owners : List ℕ) (before plan : Plan) (i j : ℕ) : Type 0 where
+  pub next-left : Found (onlyIn v w) 0 i
+  pub next-place : Found (onlyIn w v) 0 j
+  pub moves : movesIn plan ++ map (moveOf owners) (restShifts b v w i j) ≡ movesIn before ++ map (moveOf owners) (levelShifts b v w)
+  pub count : plan .n + length (restShifts b v w i j) ≡ before .n + length (levelShifts b v w)
+  pub spare : getD (onlyFrom w v j) (length (onlyFrom v w i)) no-index ≡ spareIndex v w
+
+pair-with-none : (xs : List ℕ) → pair xs [] ≡ []
+pair-with-none [] = refl
+pair-with-none (x ∷ xs) = refl
+
+module _ (b : ℕ) (v w : Row) where
+  pub rest-cons : (i j : ℕ) → i < no-index → onlyIn v w i ≡ true → j < no-index → onlyIn w v j ≡ true
+      → restShifts b v w i j ≡ shiftAt b i j ∷ restShifts b v w (suc i) (suc j)
+  unfolding restShifts
+  rest-cons i j q e r f = rw (only-cons v w i q e, only-cons w v j r f)
+
+  pub shifting-begins : (owners : List ℕ) (before : Plan) (i j : ℕ) → i ≡ leastOnly v w 0 → j ≡ leastOnly w v 0
+      → Shifting b v w owners before before i j
+  unfolding restShifts levelShifts spareIndex
+  shifting-begins owners before i j e f =
+      let left = only-from-least v w 0 (omega arith) in
+      let places = only-from-least w v 0 (omega arith) in
+      rw (e, f)
+      (record {
+        next-left = least-found v w 0 (omega arith);
+        next-place = least-found w v 0 (omega arith);
+        moves = rw (left, places);
+        count = rw (left, places);
+        spare = rw (left, places);
+      })
+
+module _ {b : ℕ} {v w : Row} {owners : List ℕ} {before plan : Plan} {i j : ℕ} (s : Shifting b v w owners before plan i j) where
+  pub left-holds : i < no-index → (rowHolds v i ≡ true) × (not (rowHolds w i) ≡ true)
+  left-holds q = and-eq-true-iff (rowHolds v i) (not (rowHolds w i)) .0 (s .next-left .passes q)
+
+  pub place-holds : j < no-index → (rowHolds w j ≡ true) × (not (rowHolds v j) ≡ true)
+  place-holds q = and-eq-true-iff (rowHolds w j) (not (rowHolds v j)) .0 (s .next-place .passes q)
+
+  pub room-left : i < no-index → j < no-index → plan .n < before .n + length (levelShifts b v w)
+  room-left q r = rw (← s .count, rest-cons b v w i j q (s .next-left .passes q) r (s .next-place .passes r)) (omega arith)
+
+  pub shifting-goes-on : (after : Plan) (i′ j′ : ℕ) → i < no-index → j < no-index
+      → after .n ≡ plan .n + 1 → movesIn after ≡ movesIn plan ++ (moveOf owners (shiftAt b i j) ∷ [])
+      → i′ ≡ leastOnly v w (i + 1) → j′ ≡ leastOnly w v (j + 1) → Shifting b v w owners before after i′ j′
+  unfolding restShifts
+  shifting-goes-on after i′ j′ q r n m e f =
+      let left : onlyFrom v w i′ ≡ onlyFrom v w (suc i) = rw (e, add-one) (only-from-least v w (suc i) (omega arith)) in
+      let places : onlyFrom w v j′ ≡ onlyFrom w v (suc j) = rw (f, add-one) (only-from-least w v (suc j) (omega arith)) in
+      let opened = rest-cons b v w i j q (s .next-left .passes q) r (s .next-place .passes r) in
+      let rest : restShifts b v w i′ j′ ≡ restShifts b v w (suc i) (suc j) = rw (left, places) in
+      record {
+        next-left = rw e (from-zero (least-found v w (i + 1) (omega arith)));
+        next-place = rw f (from-zero (least-found w v (j + 1) (omega arith)));
+        moves = rw (m, rest, append-assoc) (rw opened at (s .moves));
+        count = rw (n, rest) (omega (arith, rw opened at (s .count)));
+        spare =
+            rw (left, places)
+            (rw (only-cons v w i q (s .next-left .passes q), only-cons w v j r (s .next-place .passes r)) at (s .spare));
+      }
+
+  pub shifting-ends : (no-index ≤ i) ⊎ (no-index ≤ j) → LevelShifted b v w owners before (record { plan = plan; spare = j })
+  unfolding restShifts
+  shifting-ends (inl q) =
+      let e : i ≡ no-index = omega (arith, s .next-left .fits) in
+      let left : onlyFrom v w i ≡ [] = rw e (only-none v w) in
+      record {
+        moves = rw (left, append-nil) at (s .moves);
+        count = omega (arith, rw left at (s .count));
+        spare = sym (found-is-least w v j (s .next-place)) ∙ (rw left at (s .spare));
+      }
+  shifting-ends (inr q) =
+      let e : j ≡ no-index = omega (arith, s .next-place .fits) in
+      let places : onlyFrom w v j ≡ [] = rw e (only-none w v) in
+      let none = pair-with-none (nodesAt b (onlyFrom v w i)) in
+      record {
+        moves = rw (places, none, append-nil) at (s .moves);
+        count = omega (arith, rw (places, none) at (s .count));
+        spare = e ∙ (rw places at (s .spare));
+      }

@@ -1,0 +1,247 @@
+// Which blocks move when one layout takes the place of another: level by level, from the ends of the two runs, the lone blocks and the hole
+// alone, with no pass over the nodes.
+ghost use mathlib.Core.Path.{_≡_};
+ghost use mathlib.Core.List.{[], _∷_, _++_};
+ghost use Prim.Native.Nat.{_+_, _^_, _≤_, _<_};
+ghost use lib.ListN.{length, getD};
+ghost use Rattle.layout.specs.Runs.{Near};
+ghost use Rattle.layout.specs.Rows.{no-index};
+ghost use Rattle.table.specs.Plan.{rowHolds, lastOf, onlyIn, betterOf, leastOnly, movesIn};
+ghost use Rattle.table.specs.Plan.{moveOf, levelShifts, Shiftable, LevelShifted};
+ghost use Rattle.table.specs.Plan.{rowOf, indexOn, nodeOn, shiftsAt, Plannable, LevelPlanned, AllPlanned};
+use crate::Move;
+use layout::Layout;
+use layout::NONE;
+
+// The blocks of one level by index: the `run` indices from `start` on, and `lone`, but not `hole`. NONE for no lone block, and for no hole.
+pub struct Row {
+    pub start: u16,
+    pub run: u16,
+    pub lone: u16,
+    pub hole: u16,
+}
+
+impl Row {
+    // Whether the block with this index is in the row.
+    pub fn holds(self, index: u16) -> bool
+        ensures { λ r. ⌜ r ≡ rowHolds self index ⌝ }
+    {
+        if index == self.hole {
+            return false;
+        }
+        layout::in_row(self.start, self.run, self.lone, index)
+    }
+
+    // The last index of the run; its start where the run is empty.
+    fn last(self) -> u16
+        requires { ⌜ self .start + self .run ≤ 2 ^ 16 ⌝ }
+        ensures { λ r. ⌜ r ≡ lastOf self ⌝ }
+    {
+        if self.run == 0 {
+            return self.start;
+        }
+        self.start + (self.run - 1)
+    }
+}
+
+// The candidate, if it is at least `from`, less than `best`, in `old` and not in `new`; else `best`.
+fn better(old: Row, new: Row, from: u16, candidate: u16, best: u16) -> u16
+    ensures { λ r. ⌜ r ≡ betterOf (onlyIn old new) from candidate best ⌝ }
+{
+    if candidate < from {
+        return best;
+    }
+    if best <= candidate {
+        return best;
+    }
+    if new.holds(candidate) {
+        return best;
+    }
+    if old.holds(candidate) {
+        return candidate;
+    }
+    best
+}
+
+// The least index from `from` on that is in `old` and not in `new`; NONE if there is none.
+pub fn least(old: Row, new: Row, from: u16) -> u16
+    requires near { ⌜ Near (old .start) (old .run) (new .start) (new .run) ⌝ }
+    requires fits { ⌜ old .start + old .run ≤ 2 ^ 16 ⌝ }
+    ensures { λ r. ⌜ r ≡ leastOnly old new from ⌝ }
+{
+    let first = better(old, new, from, old.start, NONE);
+    let at_ends = better(old, new, from, old.last(), first);
+    let with_lone = better(old, new, from, old.lone, at_ends);
+    better(old, new, from, new.hole, with_lone)
+}
+
+// At most four moves, in order: the first `n` entries.
+pub struct Plan {
+    pub n: usize,
+    pub moves: [Move; 4],
+}
+
+impl Plan {
+    // No moves.
+    pub fn none() -> Plan
+        ensures { λ r. ⌜ (r .n ≡ 0) × (movesIn r ≡ []) ⌝ }
+    {
+        let unused = Move {
+            tenant: 0,
+            from: 0,
+            to: 0,
+        };
+        Plan {
+            n: 0,
+            moves: [unused; 4],
+        }
+    }
+
+    // The plan with one move more, at the end.
+    pub fn push(self, m: Move) -> Plan
+        requires { ⌜ self .n < 4 ⌝ }
+        ensures { λ r. ⌜ (r .n ≡ self .n + 1) × (movesIn r ≡ movesIn self ++ (m ∷ [])) ⌝ }
+    {
+        let at = self.n;
+        let mut moves = self.moves;
+        moves[at] = m;
+        Plan { n: at + 1, moves }
+    }
+}
+
+// The move of whoever is on the node `from`; `owners` has each node's tenant and one.
+fn move_from(owners: &[u16; 8192], from: u16, to: u16) -> Move
+    requires { ⌜ (from < 8192) × (0 < getD (now owners) from 0) ⌝ }
+    ensures { λ r. ⌜ r ≡ moveOf (now (owners .entry)) (record { from = from; to = to }) ⌝ }
+{
+    Move {
+        tenant: owners[from as usize] - 1,
+        from,
+        to,
+    }
+}
+
+// A plan, and the index of a place that is left over, or NONE.
+pub struct Shifted {
+    pub plan: Plan,
+    pub spare: u16,
+}
+
+// The plan with one level's moves at its end: the blocks that are in `old` and not in `new` go, left to right, to the places that are in `new`
+// and not in `old`; spare is the first place left over. The level's first node is `base`, and `owners` has each node's tenant and one.
+pub fn shift_level(plan: Plan, base: u16, old: Row, new: Row, owners: &[u16; 8192]) -> Shifted
+    requires rows { ⌜ Shiftable base old new (now owners) ⌝ }
+    requires room { ⌜ plan .n + length (levelShifts base old new) ≤ 4 ⌝ }
+    ensures { λ r. ⌜ LevelShifted base old new (now (owners .entry)) plan r ⌝ }
+{
+    let mut plan = plan;
+    let mut i = least(old, new, 0);
+    let mut j = least(new, old, 0);
+    while i < NONE && j < NONE {
+        plan = plan.push(move_from(owners, base + i, base + j));
+        i = least(old, new, i + 1);
+        j = least(new, old, j + 1);
+    }
+    Shifted { plan, spare: j }
+}
+
+// The row of one level of a layout, with a hole.
+fn row_of(rows: Layout, level: u16, hole: u16) -> Row
+    requires { ⌜ level ≤ 12 ⌝ }
+    ensures { λ r. ⌜ r ≡ rowOf rows level hole ⌝ }
+{
+    let l = level as usize;
+    let starts = rows.start;
+    let runs = rows.run;
+    let lones = rows.lone;
+    Row {
+        start: starts[l],
+        run: runs[l],
+        lone: lones[l],
+        hole,
+    }
+}
+
+// The index of a node on the level whose first node is `base`; NONE for a node before that.
+fn index_on(base: u16, node: u16) -> u16
+    ensures { λ r. ⌜ r ≡ indexOn base node ⌝ }
+{
+    if node < base {
+        return NONE;
+    }
+    node - base
+}
+
+// The node with an index on the level whose first node is `base`; 0 for NONE.
+fn node_on(base: u16, index: u16) -> u16
+    requires { ⌜ (index < no-index → base + index < 2 ^ 16) ⌝ }
+    ensures { λ r. ⌜ r ≡ nodeOn base index ⌝ }
+{
+    if index == NONE {
+        return 0;
+    }
+    base + index
+}
+
+// Moves, and the newcomer's node, or 0.
+pub struct Planned {
+    pub plan: Plan,
+    pub node: u16,
+}
+
+// What was planned for the levels below, with one level more: its moves, and the newcomer's node if it is the level wanted.
+fn plan_level(
+    below: Planned,
+    height: u16,
+    level: u16,
+    old: Layout,
+    new: Layout,
+    gone: u16,
+    wanted: u16,
+    owners: &[u16; 8192],
+) -> Planned
+    requires rows { ⌜ Plannable height old new gone (now owners) ⌝ }
+    requires level { ⌜ level ≤ height ⌝ }
+    requires room { ⌜ below .plan .n + length (shiftsAt height old new gone level) ≤ 4 ⌝ }
+    ensures { λ r. ⌜ LevelPlanned height old new gone level wanted (now (owners .entry)) below r ⌝ }
+{
+    let base = layout::power(height - level);
+    let plan = below.plan;
+    let from = row_of(old, level, index_on(base, gone));
+    let to = row_of(new, level, NONE);
+    let s = shift_level(plan, base, from, to, owners);
+    let plan = s.plan;
+    if level != wanted {
+        return Planned {
+            plan,
+            node: below.node,
+        };
+    }
+    let node = node_on(base, s.spare);
+    Planned { plan, node }
+}
+
+// The moves that bring everybody from the old layout, without the node `gone` (0 for none), into the new one, by level from 0 up and left to
+// right; and the place on the level wanted that they leave over, 0 if there is none. `owners` has each node's tenant and one.
+pub fn plan_moves(
+    height: u16,
+    old: Layout,
+    new: Layout,
+    gone: u16,
+    wanted: u16,
+    owners: &[u16; 8192],
+) -> Planned
+    requires { ⌜ Plannable height old new gone (now owners) ⌝ }
+    ensures { λ r. ⌜ AllPlanned height old new gone wanted (now (owners .entry)) r ⌝ }
+{
+    let mut sofar = Planned {
+        plan: Plan::none(),
+        node: 0,
+    };
+    let mut level: u16 = 0;
+    while level <= height {
+        sofar = plan_level(sofar, height, level, old, new, gone, wanted, owners);
+        level += 1;
+    }
+    sofar
+}
