@@ -3,6 +3,7 @@ ghost use mathlib.Core.Path.{_≡_};
 ghost use mathlib.Core.List.{[], _∷_};
 ghost use Prim.Native.Nat.{_+_, _≤_};
 ghost use lib.ListN.{length};
+ghost use lib.Seq.{paste};
 ghost use Rattle.lines.specs.Ascii.{bytes as Ascii·bytes};
 ghost use Rattle.lines.specs.Decimal.{decimal as Decimal·decimal};
 ghost use Rattle.lines.specs.Line.{spaced, moveField};
@@ -88,5 +89,20 @@ impl Text {
         let tenant = self.number(m.tenant);
         let old = tenant.push(b':').short_decimal(m.from);
         old.push(b'>').short_decimal(m.to)
+    }
+
+    // Puts the text into lent bytes from an index on, and answers the index after it.
+    pub fn put(self, out: &mut [u8], at: usize) -> usize
+        requires { ⌜ (self .n ≤ 128) × (at + self .n ≤ length (now out)) ⌝ }
+        ensures { λ r. ⌜ (r ≡ at + self .n) × (now (out .exit) ≡ paste (now (out .entry)) at (self .bytes) (self .n)) ⌝ }
+    {
+        let n = self.n;
+        let bytes = self.bytes;
+        let mut i = 0;
+        while i < n {
+            out[at + i] = bytes[i];
+            i += 1;
+        }
+        at + n
     }
 }
