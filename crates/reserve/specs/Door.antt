@@ -2,10 +2,11 @@
 use mathlib.Core.Path.{_≡_}
 use mathlib.Core.Bool.{cond}
 use mathlib.Core.List.{List, _++_}
-use Prim.Native.Nat.{ℕ, _*_, _≤_}
+use Prim.Native.Nat.{ℕ, _*_, _/_, _≤_}
 use lib.Dec.{eqb}
 use lib.ListN.{length, take, drop}
-use Rattle.calls.specs.Step.{Outcome as Result}
+use Rattle.calls.specs.Call.{Call}
+use Rattle.calls.specs.Step.{Outcome as Result, step}
 use Rattle.reserve.specs.Image.{imageOf, tableOf, moveBytes}
 use Rattle.pagemap.specs.declared.Counted.{Counted as Bits}
 use Rattle.reserve.specs.declared.Outcome.{Outcome}
@@ -32,6 +33,14 @@ pub record Reported (o : Result) (image list : List ℕ) (r : Outcome) (image′
   pub count : r .moves ≡ length (o .moves)
   pub table : image′ ≡ imageAfter o image
   pub moves : list′ ≡ listAfter o list
+
+-- so many entries has a list of bytes
+abbrev pub entriesIn : List ℕ → ℕ
+entriesIn list = length list / 6
+
+-- r, image′ and list′ are what the call at height h, given the list's entries, makes of the image and the list
+abbrev pub CalledOn : ℕ → (ℕ → Call) → List ℕ → List ℕ → Outcome → List ℕ → List ℕ → Type 0
+CalledOn h call image list r image′ list′ = Reported (step h (tableOf image) (call (entriesIn list))) image list r image′ list′
 
 -- an answer 0 is given only where the bytes lent are enough
 pub record Enough (answer : ℕ) (image list : List ℕ) : Type 0 where

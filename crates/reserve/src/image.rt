@@ -69,9 +69,9 @@ pub fn put_moves(plan: Plan, list: &mut [u8])
 {
     let n = move_count(plan);
     let moves = plan.moves;
-    let mut i = 0;
-    while i < n {
-        put_move(list, 6 * i, moves[i]);
-        i += 1;
+    let mut k = 0;
+    while k < n {
+        put_move(list, 6 * k, moves[k]);
+        k += 1;
     }
 }

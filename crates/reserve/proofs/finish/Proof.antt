@@ -1,6 +1,7 @@
 -- `reserve::finish` meets its contract: only an answer 0 writes.
-use mathlib.Core.Path.{sym, _∙_}
-use Rattle.calls.specs.Value.{valueOf}
+use mathlib.Core.Path.{_≡_, sym, _∙_}
+use native.Mathlib.Omega.{arith}
+use Rattle.calls.specs.Value.{numberOf, valueOf}
 use Rattle.reserve.proofs.Reports.{report-refused, report-done}
 use borrow.Author.Needs.{needs}
 use Rattle.reserve.proofs.finish.Statement.{statement}
@@ -22,18 +23,24 @@ returns : tie.Need-returns
 returns c =
     let a = c .before .before .before .before .before .before .before .args in
     let numbered = c .before .before .before .before .number-of in
-    report-refused (valueOf (a .called) (a .nodes .now)) (a .table .now) (a .moves .now) _ (numbered .ensures) (c .before .before .before .node-of .ensures) (c .before .move-count .ensures .0)
-    (λ z. c .if1 .taken (numbered .ensures ∙ z))
+    report-refused (valueOf (a .called) (a .nodes .now)) (a .table .now) (a .moves .now) _ (numbered .ensures) (c .before .before .before .node-of .ensures)
+    (c .before .move-count .ensures .0) (λ z. omega (arith, c .if1 .taken, numbered .ensures ∙ z))
+
+-- past the test the answer is 0
+accepted : (x : tie.Else1) → numberOf (x .before .before .before .before .before .before .before .args .called .answer) ≡ 0
+accepted x =
+    let zero : x .before .before .before .before .number-of .result ≡ 0 = omega (arith, x .if1 .left) in
+    sym (x .before .before .before .before .number-of .ensures) ∙ zero
 
 encode-requires : tie.Need-encode-requires
 encode-requires c κs =
-    let start = c .before .before .before .before .before .before .before .before in
-    (start .pre .0, start .pre .1 .table (sym (c .before .before .before .before .before .number-of .ensures) ∙ c .before .if1 .left))
+    let x = c .before in
+    (x .before .before .before .before .before .before .before .pre .0, x .before .before .before .before .before .before .before .pre .1 .table (accepted x))
 
 put-moves-requires : tie.Need-put-moves-requires
 put-moves-requires c κs =
-    let start = c .before .before .before .before .before .before .before .before .before .before .before .before in
-    start .pre .1 .moves (sym (c .before .before .before .before .before .before .before .before .before .number-of .ensures) ∙ c .before .before .before .before .before .if1 .left)
+    let x = c .before .before .before .before .before in
+    x .before .before .before .before .before .before .before .pre .1 .moves (accepted x)
 
 same-length : tie.Need-same-length
 same-length c = search needs
@@ -43,10 +50,10 @@ same-length-2 c = search needs
 
 returns-2 : tie.Need-returns-2
 returns-2 c =
-    let a = c .before .before .before .before .before .before .before .before .before .before .before .before .before .before .before .args in
-    let zero = sym (c .before .before .before .before .before .before .before .before .before .before .before .before .number-of .ensures) ∙ c .before .before .before .before .before .before .before .before .if1 .left in
-    report-done (valueOf (a .called) (a .nodes .now)) (a .table .now) (a .moves .now) _ (sym zero) (c .before .before .before .before .before .before .before .before .before .before .before .node-of .ensures) (c .before .before .before .before .before .before .before .before .before .move-count .ensures .0)
-    zero _ _ (c .before .before .before .before .before .before .encode .ensures) (c .before .before .put-moves .ensures)
+    let x = c .before .before .before .before .before .before .before .before in
+    let a = x .before .before .before .before .before .before .before .args in
+    report-done (valueOf (a .called) (a .nodes .now)) (a .table .now) (a .moves .now) _ (sym (accepted x)) (x .before .before .before .node-of .ensures)
+    (x .before .move-count .ensures .0) (accepted x) _ _ (c .before .before .before .before .before .before .encode .ensures) (c .before .before .put-moves .ensures)
 
 pub finish-spec : {M : Type 1} → statement M
 finish-spec =

@@ -15,10 +15,10 @@ use Rattle.reserve.proofs.image.put_moves.Statement.{statement}
 use Rattle.reserve.proofs.image.put_moves.Tie as tie
 
 abbrev Inv-loop : tie.InvT-loop
-Inv-loop list₀ n moves i₀ list i = (i ≤ n) × (list ≡ moveBytes (take i moves) ++ drop (6 * i) list₀) × (length list ≡ length list₀)
+Inv-loop list₀ n moves k₀ list k = (k ≤ n) × (list ≡ moveBytes (take k moves) ++ drop (6 * k) list₀) × (length list ≡ length list₀)
 
 abbrev μ-loop : tie.MeasureT-loop
-μ-loop list₀ n moves i₀ list i = n - i
+μ-loop list₀ n moves k₀ list k = n - k
 
 move-count-requires : tie.Need-move-count-requires Inv-loop μ-loop
 move-count-requires c κs = search needs
@@ -41,8 +41,8 @@ put-move-requires c κs =
     let at-loop = c .before .before .before in
     omega (arith, at-loop .before .before .move-count .ensures .1, at-loop .loop .inv .2, at-loop .before .before .before .before .pre)
 
-add-i : tie.Need-add-i Inv-loop μ-loop
-add-i c = omega arith
+add-k : tie.Need-add-k Inv-loop μ-loop
+add-k c = omega arith
 
 loop-less : tie.Need-loop-less Inv-loop μ-loop
 loop-less c = omega arith
@@ -52,13 +52,13 @@ loop-again c =
     let at-loop = c .before .before .before .before .before .before in
     let start = at-loop .before .before .before .before in
     let called = c .before .before .put-move in
-    let i = at-loop .loop .i in
+    let k = at-loop .loop .k in
     let ms = start .args .plan .moves in
     let long : _≡_ {A = ℕ} (length (start .args .plan .moves)) 4 = search length-of-mapped in
-    let in-plan : i < length ms = omega (arith, at-loop .before .before .move-count .ensures .1) in
-    let in-list : 6 * i + 6 ≤ length (start .args .list .now) = omega (arith, at-loop .before .before .move-count .ensures .1, start .pre) in (
+    let in-plan : k < length ms = omega (arith, at-loop .before .before .move-count .ensures .1) in
+    let in-list : 6 * k + 6 ≤ length (start .args .list .now) = omega (arith, at-loop .before .before .move-count .ensures .1, start .pre) in (
       omega arith,
-      called .ensures ∙ put-more (start .args .list .now) ms (at-loop .loop .list) i (at-loop .loop .inv .1) in-plan in-list,
+      called .ensures ∙ put-more (start .args .list .now) ms (at-loop .loop .list) k (at-loop .loop .inv .1) in-plan in-list,
       called .kept .0 ∙ at-loop .loop .inv .2,
     )
 
@@ -72,7 +72,7 @@ returns c =
     let a = counted .before .before .args in
     let n = a .plan .n in
     let ms = a .plan .moves in
-    let all : at-loop .loop .i ≡ length (take n ms) = omega (arith, counted .move-count .ensures .0) in
+    let all : at-loop .loop .k ≡ length (take n ms) = omega (arith, counted .move-count .ensures .0) in
     at-loop .loop .inv .1
     ∙ ap (λ (k : ℕ). moveBytes (take k ms) ++ drop (6 * k) (a .list .now)) all
     ∙ ap (λ (l : List Move). moveBytes l ++ drop (6 * length (take n ms)) (a .list .now)) (take-own-length n ms)
@@ -89,7 +89,7 @@ put-moves-spec =
     mul-put-move-2
     array-copy-out-put-move
     put-move-requires
-    add-i
+    add-k
     loop-less
     loop-again
     same-length
