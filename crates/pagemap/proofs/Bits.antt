@@ -61,7 +61,7 @@ module _ (d : ℕ → ℕ) (bits : (b : ℕ) → d b ≤ 1) where
         | no e ↦ bit-below-block (d n) n (sum n (λ b. d b * 2 ^ b)) b (omega arith) ∙ bit-of-sum n b (omega arith)
       ]
 
--- one bit more, taken from those below b, which b − 1 are left of
+-- the highest of the bits below b, shifted into x
 pub shift-in : (d : ℕ → ℕ) (x b : ℕ) → 0 < b → (x * 2 + d (b - 1)) * 2 ^ (b - 1) + sum (b - 1) (λ i. d i * 2 ^ i) ≡ x * 2 ^ b + sum b (λ i. d i * 2 ^ i)
 unfolding sum
 shift-in d x zero q = absurd (omega arith)

@@ -14,4 +14,4 @@ setBits (x ∷ m) = ones x + setBits m
 
 -- what counting answers: those of the first 512 bytes; a shorter map is refusal 15 and counts 0
 unfoldable pub counted : List ℕ → Counted
-counted m = cond (ltb (length m) 512) (record { number = 15; count = 0 }) (record { number = 0; count = setBits (take 512 m) })
+counted m = cond (ltb (length m) 512) (record { answer = 15; count = 0 }) (record { answer = 0; count = setBits (take 512 m) })

@@ -1,6 +1,6 @@
 // The page map of a reserve: a bit for each page, set where a held block covers the page, and the number of bits set in a lent map.
 ghost use mathlib.Core.Path.{_≡_};
-ghost use Prim.Native.Nat.{ℕ, min, suc, _+_, _*_, _^_, _≤_, _<_};
+ghost use Prim.Native.Nat.{ℕ, min, _≤_, _<_};
 ghost use mathlib.Core.List.{_++_};
 ghost use lib.ListN.{length, getD, drop};
 ghost use Rattle.tree.specs.Held.{one-if};
@@ -16,7 +16,7 @@ use survey::survey;
 
 // What counting answers: 0 and the number of set bits, or 15 and 0.
 pub struct Counted {
-    pub number: u16,
+    pub answer: u16,
     pub count: u16,
 }
 
@@ -45,15 +45,15 @@ pub fn draw(height: u16, table: &[u16], map: &mut [u8]) -> u16
 pub fn count(map: &[u8]) -> Counted
     ensures { λ r. ⌜ r ≡ counted (now (map .entry)) ⌝ }
 {
-    if map.len() < 512 {
+    if 512 <= map.len() {
         return Counted {
-            number: 15,
-            count: 0,
+            answer: 0,
+            count: set_bits(&map[..512]),
         };
     }
     Counted {
-        number: 0,
-        count: set_bits(&map[..512]),
+        answer: 15,
+        count: 0,
     }
 }
 
@@ -98,8 +98,8 @@ fn page_flags(layout: Layout) -> [u8; 4096]
     pages
 }
 
-// Sets the flags of the pages of the `run` blocks from index `start` on and of the block at index `lone`, each of `size` pages. Blocks past
-// the last page have none; no size puts index 65,535, which stands for no block, before it.
+// Sets the flags of the pages of the `run` blocks from index `start` on and of the block at index `lone`, each of `size` pages. What lies past
+// the last page has no flag, and at any size that is where index 65,535 lies, which stands for no block.
 fn fill_row(pages: &mut [u8; 4096], size: usize, start: u16, run: u16, lone: u16)
     requires { ⌜ (size ≤ 4096) × (length (now pages) ≡ 4096) ⌝ }
     ensures { λ r. ⌜ now (pages .exit) ≡ rowFilled size start run lone (now (pages .entry)) ⌝ }

@@ -49,4 +49,4 @@ pub record Enough (answer : ℕ) (image list : List ℕ) : Type 0 where
 
 -- the count of a map
 abbrev pub countOf : Bits → Counted
-countOf b = record { answer = b .number; count = b .count }
+countOf b = record { answer = b .answer; count = b .count }

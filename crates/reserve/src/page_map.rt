@@ -30,7 +30,7 @@ pub extern "C" fn reserve_count(map: &[u8]) -> Counted
 {
     let found = pagemap::count(map);
     Counted {
-        answer: found.number,
+        answer: found.answer,
         count: found.count,
     }
 }

@@ -7,19 +7,19 @@ use Rattle.pagemap.specs.Count.{counted}
 use Rattle.pagemap.proofs.count.Statement.{statement}
 use Rattle.pagemap.proofs.count.Tie as tie
 
-returns : tie.Need-returns
-unfolding counted
-returns c = rw (lt-ltb (length (now (c .before .before .args .map))) 512 (omega arith))
-
 slice-aggregate-set-bits : tie.Need-slice-aggregate-set-bits
 slice-aggregate-set-bits c = simp length-take (omega arith)
 
 set-bits-requires : tie.Need-set-bits-requires
 set-bits-requires c κs = simp length-take (omega arith)
 
+returns : tie.Need-returns
+unfolding counted
+returns c = rw (le-ltb (length (now (c .before .before .before .before .args .map))) 512 (omega arith), c .set-bits .ensures)
+
 returns-2 : tie.Need-returns-2
 unfolding counted
-returns-2 c = rw (le-ltb (length (now (c .before .before .before .before .args .map))) 512 (omega arith), c .set-bits .ensures)
+returns-2 c = rw (lt-ltb (length (now (c .before .before .args .map))) 512 (omega arith))
 
 pub count-spec : {M : Type 1} → statement M
-count-spec = tie.close (tie.spec returns slice-aggregate-set-bits set-bits-requires returns-2)
+count-spec = tie.close (tie.spec slice-aggregate-set-bits set-bits-requires returns returns-2)

@@ -8,7 +8,7 @@ use borrow.Author.Needs.{needs}
 use denote.Ref.{now}
 use lib.ListN.{set}
 use Rattle.pagemap.specs.Flags.{filled}
-use Rattle.pagemap.proofs.Flags.{filled-none, filled-more, filled-same}
+use Rattle.pagemap.proofs.Filled.{filled-none, filled-more, filled-same}
 use Rattle.pagemap.proofs.fill.Statement.{statement}
 use Rattle.pagemap.proofs.fill.Tie as tie
 

@@ -11,7 +11,7 @@ use lib.ListN.{length}
 use mir.Syntax.{w64}
 use mir.Val.{Fits}
 use Rattle.pagemap.specs.Flags.{filled}
-use Rattle.pagemap.proofs.Flags.{filled-length}
+use Rattle.pagemap.proofs.Filled.{filled-length}
 use Rattle.pagemap.proofs.fill_row.Statement.{statement}
 use Rattle.pagemap.proofs.fill_row.Tie as tie
 

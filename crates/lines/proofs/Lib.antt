@@ -1,0 +1,5 @@
+pub mod Arrays
+pub mod Decimal
+pub mod Texts
+pub mod Fields
+pub mod Listed
