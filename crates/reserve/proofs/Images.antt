@@ -1,12 +1,10 @@
 -- Numbers and their bytes: one more number at the end, and there and back.
 use mathlib.Core.Path.{_≡_, refl, sym, ap, ap₂, _∙_}
-use mathlib.Core.Bool.{cond}
 use mathlib.Core.List.{List, [], _∷_, _++_, append-assoc, append-nil}
 use Prim.Native.Nat.{ℕ, zero, suc, _+_, _*_, _≤_, _<_}
 use native.Mathlib.Numerals.{add-one}
 use native.Mathlib.Omega.{arith}
 use borrow.Author.Tests.{eq-eqb, ne-eqb}
-use lib.Dec.{eqb}
 use lib.ListN.{length, getD, take, drop, set, length-append, length-drop, drop-of-length-le}
 use lib.Seq.{take-all, drop-cons, drop-drop, take-suc, take-suc-set, take-at, length-take-le, drop-append-add, sets, sets-eq}
 use Rattle.table.specs.declared.Move.{Move}
@@ -35,12 +33,12 @@ move-bytes-length ms = omega (arith, image-length (numbersOf ms), numbers-of-len
 image-append : (a b : List ℕ) → imageOf (a ++ b) ≡ imageOf a ++ imageOf b
 unfolding imageOf
 image-append [] b = refl
-image-append (n ∷ a) b = ap (λ (s : List ℕ). low n ∷ high n ∷ s) (image-append a b)
+image-append (n ∷ a) b = rw (image-append a b)
 
 numbers-append : (a b : List Move) → numbersOf (a ++ b) ≡ numbersOf a ++ numbersOf b
 unfolding numbersOf
 numbers-append [] b = refl
-numbers-append (m ∷ a) b = ap (λ (s : List ℕ). m .tenant ∷ m .from ∷ m .to ∷ s) (numbers-append a b)
+numbers-append (m ∷ a) b = rw (numbers-append a b)
 
 image-of-more : (T : List ℕ) (i : ℕ) → i < length T → imageOf (take (i + 1) T) ≡ imageOf (take i T) ++ imageOf (getD T i 0 ∷ [])
 image-of-more T i p = rw (add-one, take-suc T i 0 p) (image-append (take i T) (getD T i 0 ∷ []))

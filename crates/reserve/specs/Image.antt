@@ -1,6 +1,6 @@
 -- Numbers of 16 bits as bytes, the low byte first. Document 01, "Calls": the table as 8,192 bytes, a move as six.
 use mathlib.Core.Bool.{cond}
-use mathlib.Core.List.{List, [], _∷_, _++_}
+use mathlib.Core.List.{List, [], _∷_}
 use Prim.Native.Nat.{ℕ}
 use lib.Dec.{eqb}
 use lib.ListN.{length}
