@@ -113,7 +113,7 @@ count-one-more (suc n) i f g h p q r = go (λ h. count-one-more n i f g h p q r)
         rw (ap f e ∙ p, ap g e ∙ q) (omega arith)
     go below (no d) = rw (r n d) (omega (arith, below (omega arith)))
 
-false-unless-true : (p : Bool) → ¬ (p ≡ true) → p ≡ false
+pub false-unless-true : (p : Bool) → ¬ (p ≡ true) → p ≡ false
 false-unless-true true h = absurd (h refl)
 false-unless-true false h = refl
 

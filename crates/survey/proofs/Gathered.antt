@@ -6,7 +6,7 @@ use mathlib.Core.List.{List}
 use Prim.Native.Nat.{ℕ, suc, _^_, _≤_, _<_}
 use native.Mathlib.Omega.{arith}
 use lib.ListN.{length, getD, replicate, length-replicate}
-use lib.Pow.{pow-pos, pow-mono}
+use lib.Pow.{pow-pos}
 use Rattle.tree.specs.Pages.{sum}
 use Rattle.tree.proofs.Count.{equal-of-both-ways}
 use Rattle.layout.specs.Layout.{pages}
@@ -16,11 +16,11 @@ use Rattle.table.specs.Owners.{nodes-below, ownersOf, usedIn, levelCounts}
 use Rattle.table.proofs.Tally.{Once}
 use Rattle.table.proofs.Order.{in-order-fits, in-order-iff}
 use Rattle.table.proofs.Owners.{nodes-are-below, below-of-nodes}
-use Rattle.table.proofs.Levels.{length-owners, once-iff-levels-are-used}
+use Rattle.table.proofs.Levels.{level-counts-together, length-owners, tree-below-8192, once-iff-levels-are-used}
 use Rattle.survey.specs.Owned.{rowsOwned}
 use Rattle.survey.specs.Survey.{Gathered}
 use Rattle.survey.proofs.Owned.{LayoutOwned, rows-owned-iff}
-use Rattle.survey.proofs.InOrder.{counts-of-levels, counts-are-levels, in-order-iff-owned}
+use Rattle.survey.proofs.InOrder.{counts-are-levels, in-order-iff-owned}
 
 -- a test is as good as `in-order?` if it holds exactly for a table in order
 in-order-decided : (h : ℕ) (T : List ℕ) (b : Bool) → h ≤ 12 → (b ≡ true → InOrder h T) → (InOrder h T → b ≡ true) → b ≡ in-order? h T
@@ -37,14 +37,14 @@ module _ {h : ℕ} {T cs o : List ℕ} (g : Gathered h T cs o) where
   in-tree = nodes-are-below (2 ^ suc h) T (pow-pos (suc h)) (g .below)
 
   tree-in-owners : 2 ^ suc h ≤ 8192
-  tree-in-owners = pow-mono {j = 13} (omega (arith, g .low))
+  tree-in-owners = tree-below-8192 h (g .low)
 
   counts-by-owners : cs ≡ levelCounts h (ownersOf 8192 T)
   counts-by-owners = g .counts ∙ ap (levelCounts h) (g .owners)
 
   once-iff-counted : (sum 13 (λ l. getD cs l 0) ≡ usedIn T) ↔ Once T
   once-iff-counted =
-      let by-levels = ap (λ (c : List ℕ). sum 13 (λ l. getD c l 0)) counts-by-owners ∙ counts-of-levels h 8192 T (g .low) tree-in-owners in-tree in
+      let by-levels = ap (λ (c : List ℕ). sum 13 (λ l. getD c l 0)) counts-by-owners ∙ level-counts-together h (ownersOf 8192 T) (g .low) in
       let iff = once-iff-levels-are-used h 8192 T tree-in-owners in-tree in
       (λ e. iff .0 (sym by-levels ∙ e), λ once. by-levels ∙ iff .1 once)
 

@@ -1,27 +1,20 @@
 -- A table with no node past the tree is in order exactly if none stands twice, the pages fit, and every node of the layout has an owner.
-use mathlib.Core.Path.{_≡_, sym, ap, _∙_}
+use mathlib.Core.Path.{_≡_, sym, _∙_}
 use mathlib.Core.Logic.{_↔_}
 use mathlib.Core.List.{List}
 use Prim.Native.Nat.{ℕ, suc, _^_, _≤_, _<_}
-use native.Mathlib.Nat.{zero-add}
-use native.Mathlib.Decide.{decLe}
 use native.Mathlib.Omega.{arith}
-use borrow.Author.Tests.{le-leb, lt-leb}
-use lib.ListN.{getD}
 use Rattle.tree.specs.Node.{InTree}
-use Rattle.tree.specs.Pages.{sum}
-use Rattle.tree.proofs.Sizes.{sizes-above}
-use Rattle.tree.proofs.Sum.{sum-cong, sum-stops}
 use Rattle.layout.specs.Layout.{pages}
 use Rattle.layout.specs.Set.{layoutSet}
 use Rattle.layout.proofs.Theorems.{layout-in-tree, layout-has-counts}
-use Rattle.table.specs.Table.{nodeAt, occupied, InOrder, tenantsAt, countsOf}
-use Rattle.table.specs.Owners.{ownersOf, levelCount, countUpTo, levelCounts}
+use Rattle.table.specs.Table.{nodeAt, occupied, InOrder, countsOf}
+use Rattle.table.specs.Owners.{ownersOf, levelCounts}
 use Rattle.table.proofs.Tally.{Once}
 use Rattle.table.proofs.Tabulate.{tabulate-cong}
-use Rattle.table.proofs.Order.{tabulate-at, occupied-in-tree, tenants-are-sizes, sizes-are-counts, in-order-fits, in-order-is-layout, in-order-of-layout}
+use Rattle.table.proofs.Order.{occupied-in-tree, tenants-are-sizes, sizes-are-counts, in-order-fits, in-order-is-layout, in-order-of-layout}
 use Rattle.table.proofs.Owners.{owned-is-occupied}
-use Rattle.table.proofs.Levels.{level-count-is-size}
+use Rattle.table.proofs.Levels.{level-counts-are-sizes}
 use Rattle.survey.specs.Owned.{owned}
 use Rattle.survey.proofs.Same.{same-of-sizes}
 use Rattle.survey.proofs.Owned.{LayoutOwned}
@@ -33,30 +26,9 @@ module _ (h m : ℕ) (T : List ℕ) (low : h ≤ 12) (long : 2 ^ suc h ≤ m) (b
   owned-is-held : (n : ℕ) → InTree h n → owned o n ≡ occupied T n
   owned-is-held n t = owned-is-occupied m T n (t .above-zero) (omega (arith, t .in-height))
 
-  -- ---- the counts
-
-  count-above : (l : ℕ) → h < l → countUpTo h o l ≡ 0
-  count-above l q = rw (lt-leb l h q)
-
-  count-in-height : (l : ℕ) → l ≤ h → countUpTo h o l ≡ levelCount h o l
-  count-in-height l q = rw (le-leb l h q)
-
-  pub counts-of-levels : sum 13 (λ l. getD (levelCounts h o) l 0) ≡ sum (suc h) (levelCount h o)
-  unfolding levelCounts
-  counts-of-levels =
-      sum-cong 13 (λ l q. tabulate-at 0 13 (countUpTo h o) l q ∙ ap (countUpTo h o) (zero-add l))
-      ∙ sum-stops (suc h) 13 (countUpTo h o) (omega arith) (λ l q. count-above l q)
-      ∙ sum-cong (suc h) (λ l q. count-in-height l (omega arith))
-
   pub counts-are-levels : Once T → countsOf h T ≡ levelCounts h o
-  unfolding countsOf levelCounts
-  counts-are-levels once = tabulate-cong 0 13 (λ l q. at-level l (decLe l h))
-    where
-      at-level : (l : ℕ) → Dec (l ≤ h) → tenantsAt h T l ≡ countUpTo h o l
-      at-level l (yes q) = tenants-are-sizes h T below once l ∙ sym (level-count-is-size h m T long below l q) ∙ sym (count-in-height l q)
-      at-level l (no q) = tenants-are-sizes h T below once l ∙ sizes-above h (occupied T) l (omega arith) ∙ sym (count-above l (omega arith))
-
-  -- ---- the layout
+  unfolding countsOf
+  counts-are-levels once = tabulate-cong 0 13 (λ l q r. tenants-are-sizes h T below once l) ∙ sym (level-counts-are-sizes h m T long below)
 
   layout-owned : InOrder h T → LayoutOwned h (countsOf h T) o
   layout-owned i n e = owned-is-held n (layout-in-tree h (countsOf h T) n e) ∙ in-order-is-layout h T low i n ∙ e

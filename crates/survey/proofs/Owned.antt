@@ -29,6 +29,7 @@ use Rattle.table.specs.Table.{tally}
 use Rattle.table.specs.Owners.{usedIn}
 use Rattle.table.proofs.Tally.{tally-agrees, all-pass}
 use Rattle.table.proofs.Order.{all-below-at, all-below-of}
+use Rattle.table.proofs.Levels.{tree-below-8192}
 use Rattle.survey.specs.Owned.{owned, runOwned, rowOwned, levelOwned, rowsOwned}
 
 -- ---- a run
@@ -133,7 +134,7 @@ module _ (h : ℕ) (cs o : List ℕ) (low : h ≤ 12) (fits : pages cs ≤ 2 ^ h
   layout-of-rows all n e =
       let b : Block = blockOf h n in
       let t : InTree h n = layout-in-tree h cs n e in
-      let small : 2 ^ suc h ≤ 8192 = pow-mono {j = 13} (omega arith) in
+      let small = tree-below-8192 h low in
       let index : b .index < no-index = omega (arith, t .in-height) in
       let in-row = row-holds cs (b .level) (b .index) index ∙ held-block h (layoutSet h cs) (among (layout cs)) same-set n e in
       let level-owned = all-below-at (suc h) (levelOwned h (rowsOf cs) o) all (b .level) (omega arith) in

@@ -20,7 +20,8 @@ pub struct Finding {
     pub counts: Counts,
 }
 
-// What the table shows. Where it is in order, `owner`, which is lent as zeros, then has each node's tenant and one, and 0 for a free node.
+// What the table shows. Where it is in order, `owner`, which is lent as zeros, then has at each held node its tenant's number
+// and one.
 pub fn survey(height: u16, table: &[u16], owner: &mut [u16; 8192]) -> Finding
     requires { ⌜ (height ≤ 12) × (length (now table) ≡ 4096) × (now owner ≡ replicate 8192 0) ⌝ }
     ensures { λ r. ⌜ Surveyed height (now (table .entry)) (now (owner .exit)) r ⌝ }

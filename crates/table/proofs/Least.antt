@@ -20,6 +20,7 @@ use Rattle.table.proofs.Keep.{of-upFrom, of-keep}
 
 -- ---- the first number that passes a test
 
+-- b is the first from a on that passes, or d if none below d does
 first-is : (p : ℕ → Bool) (a n d b : ℕ) → a + n ≡ d → a ≤ b → b ≤ d → (b < d → p b ≡ true)
     → ((x : ℕ) → a ≤ x → x < b → ¬ (p x ≡ true)) → getD (keep p (upFrom a n)) 0 d ≡ b
 first-is p a zero d b e q r passes before = omega arith
@@ -85,6 +86,7 @@ not-in-run w i e hole q = by-test (ltb i (w .start + w .run)) refl (rw (ne-eqb i
     by-test true g e′ = absurd (true≢false e′)
     by-test false g e′ = ltb-false i (w .start + w .run) g
 
+-- Beside its lone block and the other's hole, only an end of its run can stick out of a near run.
 one-of-four : (v w : Row) → Near (v .start) (v .run) (w .start) (w .run) → (i : ℕ) → onlyIn v w i ≡ true → OneOfFour v w i
 one-of-four v w near i e = by-lone (ℕ-discrete i (v .lone)) (ℕ-discrete i (w .hole)) (ℕ-discrete i (v .start))
   where
@@ -141,6 +143,7 @@ module _ (p : ℕ → Bool) (a c best : ℕ) where
       by-tests true f false g u e = before
       by-tests false f t g u e = before
 
+-- so the four tries find the least of all
 pub least-of-four : (v w : Row) (a : ℕ) → Near (v .start) (v .run) (w .start) (w .run) → a ≤ no-index
     → leastOnly v w a
     ≡ betterOf (onlyIn v w) a (w .hole)

@@ -118,7 +118,7 @@ module _ (h m : ℕ) (T : List ℕ) (fits : 2 ^ suc h ≤ m) (in-tree : (t : ℕ
   -- and above the height there are none
   pub level-counts-are-sizes : levelCounts h (ownersOf m T) ≡ tabulate 0 13 (sizes h (occupied T))
   unfolding levelCounts
-  level-counts-are-sizes = tabulate-cong 0 13 (λ l q. at-level l (decLe l h))
+  level-counts-are-sizes = tabulate-cong 0 13 (λ l q r. at-level l (decLe l h))
     where
       at-level : (l : ℕ) → Dec (l ≤ h) → countUpTo h (ownersOf m T) l ≡ sizes h (occupied T) l
       at-level l (yes q) = rw (le-leb l h q) (level-count-is-size l q)

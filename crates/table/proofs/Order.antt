@@ -3,7 +3,7 @@ use mathlib.Core.Path.{_≡_, refl, sym, ap, ap₂, _∙_, fun-ext, subst}
 use mathlib.Core.Bool.{Bool, true, false, _&&_, _||_, and-eq-true-iff, or-true}
 use mathlib.Core.Logic.{_↔_}
 use mathlib.Core.List.{List}
-use Prim.Native.Nat.{ℕ, zero, suc, _+_, _^_, _≤_, _<_}
+use Prim.Native.Nat.{ℕ, zero, suc, _^_, _≤_, _<_}
 use native.Mathlib.Omega.{arith}
 use native.Mathlib.Decide.{ℕ-discrete, decLt}
 use borrow.Author.Tests.{leb-true, le-leb, ltb-true, lt-ltb, eqb-true, eq-eqb, ne-eqb}
@@ -19,20 +19,12 @@ use Rattle.tree.proofs.Count.{equal-of-both-ways}
 use Rattle.layout.specs.Layout.{pages}
 use Rattle.layout.specs.Set.{layoutSet}
 use Rattle.layout.proofs.Theorems.{layout-in-tree, layout-is-legal, layout-is-safe, layout-has-counts, legal-set-fits, safe-set-is-layout}
-use Rattle.table.specs.Table.{nodeAt, occupied, InOrder, tally, tenantsAt, tabulate, countsOf, all-below, in-order?}
+use Rattle.table.specs.Table.{nodeAt, occupied, InOrder, tally, tenantsAt, countsOf, all-below, in-order?}
+use Rattle.table.proofs.Tabulate.{tabulate-length, getD-tabulate}
 use Rattle.table.proofs.Tally.{node-in-table, tenant-of, occupied-above-zero, occupied-by}
 use Rattle.table.proofs.Tally.{Once, tally-agrees, all-pass, node-stands-once, once-of-tally, tally-is-count}
 
 -- ---- the counts
-
-tabulate-length : (i n : ℕ) (f : ℕ → ℕ) → length (tabulate i n f) ≡ n
-tabulate-length i zero f = refl
-tabulate-length i (suc n) f = ap suc (tabulate-length (suc i) n f)
-
-pub tabulate-at : (i n : ℕ) (f : ℕ → ℕ) (l : ℕ) → l < n → getD (tabulate i n f) l 0 ≡ f (i + l)
-tabulate-at i zero f l q = absurd (omega arith)
-tabulate-at i (suc n) f zero q = ap f (omega arith)
-tabulate-at i (suc n) f (suc l) q = tabulate-at (suc i) n f l (omega arith) ∙ ap f (omega arith)
 
 pub counts-length : (h : ℕ) (T : List ℕ) → length (countsOf h T) ≡ 13
 unfolding countsOf
@@ -40,7 +32,7 @@ counts-length h T = tabulate-length 0 13 (tenantsAt h T)
 
 pub counts-at : (h : ℕ) (T : List ℕ) (l : ℕ) → l < 13 → getD (countsOf h T) l 0 ≡ tenantsAt h T l
 unfolding countsOf
-counts-at h T l q = tabulate-at 0 13 (tenantsAt h T) l q ∙ ap (tenantsAt h T) (omega arith)
+counts-at h T l q = getD-tabulate 0 13 (tenantsAt h T) l q ∙ ap (tenantsAt h T) (omega arith)
 
 pub counts-past : (h : ℕ) (T : List ℕ) (l : ℕ) → 13 ≤ l → getD (countsOf h T) l 0 ≡ 0
 counts-past h T l q = List·getD-eq-default (countsOf h T) 0 {n = l} (omega (arith, counts-length h T))

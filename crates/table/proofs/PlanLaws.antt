@@ -1,27 +1,25 @@
 -- What a caller of the planner uses: that it may be asked for the layouts of counts that fit, and that its plan is the table's list of moves.
 use mathlib.Core.Path.{_≡_, refl, sym, ap, ap₂, _∙_, fun-ext}
 use mathlib.Core.Bool.{true, not, _&&_, cond, and-true, and-eq-true-iff}
+use mathlib.Core.Logic.{⊎-elim}
 use mathlib.Core.List.{List, [], _∷_, map}
 use mathlib.Core.List.{List·Memᴰ as In, List·Memᴰ·head as at-head, List·Memᴰ·tail as in-tail}
-use Prim.Native.Nat.{ℕ, zero, suc, _+_, _-_, _^_, _≤_, _<_}
+use Prim.Native.Nat.{ℕ, zero, suc, _-_, _^_, _≤_, _<_}
 use native.Mathlib.Omega.{arith}
-use borrow.Author.Tests.{lt-ltb, le-ltb, eq-eqb, ne-eqb, eqb-false, not-true}
+use borrow.Author.Tests.{ne-eqb, eqb-false, not-true}
 use lib.Dec.{eqb, leb}
 use lib.ListN.{length, getD, set, length-map}
 use lib.Seq.{getD-set-same, getD-set-other}
 use Rattle.tree.specs.Held.{Nodes}
-use Rattle.tree.specs.Block.{Block}
 use Rattle.tree.proofs.Count.{equal-of-both-ways}
-use Rattle.tree.proofs.Coordinates.{index-lt}
-use Rattle.layout.specs.Layout.{block, pages}
+use Rattle.layout.specs.Layout.{pages}
 use Rattle.layout.specs.Runs.{Near}
 use Rattle.layout.specs.Change.{oneMore}
 use Rattle.layout.specs.Set.{layoutSet}
-use Rattle.layout.specs.Rows.{no-index, startAt, runAt, rowsOf, kthIndex, indexAt, holdsNode}
+use Rattle.layout.specs.Rows.{startAt, runAt, rowsOf, holdsNode}
 use Rattle.layout.proofs.Ends.{runs-stay-near}
-use Rattle.layout.proofs.Within.{layout-within}
-use Rattle.layout.proofs.Levels.{Row, run-only, run-and-lone, row-of-layout}
-use Rattle.layout.proofs.Rows.{rows-hold-layout, kth-in-layout}
+use Rattle.layout.proofs.RowsWithin.{run-in-tree, lone-in-tree}
+use Rattle.layout.proofs.Rows.{rows-hold-layout}
 use Rattle.table.specs.Table.{nodeAt, occupied, countsOf, InOrder}
 use Rattle.table.specs.Pairing.{Shift, shifts, newcomer, ownerOf, movesOf}
 use Rattle.table.specs.Owners.{ownersOf}
@@ -38,29 +36,16 @@ use Rattle.table.proofs.Moved.{Movable, room-of}
 
 -- ---- the rows of a layout
 
-last-below : (s n x b : ℕ) → ((k : ℕ) → k < n → kthIndex s n x k < b) → 0 < n → s + n ≤ b
-last-below s n x b inside q = omega (arith, rw (lt-ltb (n - 1) n (omega arith)) at (inside (n - 1) (omega arith)))
-
--- if every block of a row is below b, the run ends there and the lone one lies before it
-ends-below : {m s n x c : ℕ} {bs : List Block} (b : ℕ) → Row m s n x bs c → ((k : ℕ) → k < c → kthIndex s n x k < b)
-    → (0 < n → s + n ≤ b) × (x < no-index → x < b)
-ends-below {s = s} {n} {x} b (run-only e) inside = (last-below s n x b (λ k q. inside k q), λ q. absurd (omega arith))
-ends-below {s = s} {n} {x} b (run-and-lone q) inside =
-    (last-below s n x b (λ k r. inside k (omega arith)), λ r. rw (le-ltb n n (omega arith), eq-eqb n n refl) at (inside n (omega arith)))
-
 -- the rows of counts that fit lie in the tree
-pub rows-within : (h : ℕ) (cs : List ℕ) → pages cs ≤ 2 ^ h → (l : ℕ) → LevelWithin (2 ^ (h - l)) (rowsOf cs) l
-rows-within h cs fits l =
-    let ends = ends-below (2 ^ (h - l)) (row-of-layout cs l) inside in
-    record { run-within = ends .0; lone-within = ends .1 }
-  where
-    inside : (k : ℕ) → k < getD cs l 0 → indexAt (rowsOf cs) l k < 2 ^ (h - l)
-    inside k q =
-        let b = block l (indexAt (rowsOf cs) l k) in
-        index-lt h b (layout-within h cs fits b (kth-in-layout cs l k q))
+rows-within : (h : ℕ) (cs : List ℕ) → pages cs ≤ 2 ^ h → (l : ℕ) → l ≤ h → LevelWithin (2 ^ (h - l)) (rowsOf cs) l
+rows-within h cs fits l q =
+    record {
+      run-within = run-in-tree h cs fits l q;
+      lone-within = λ some. ⊎-elim (λ none. absurd (omega arith)) (λ inside. inside) (lone-in-tree h cs fits l q);
+    }
 
 -- with nobody given up, the nodes are those of the layout
-pub nodes-of-rows : (h : ℕ) (cs : List ℕ) (n : ℕ) → h ≤ 12 → nodesBut h (rowsOf cs) 0 n ≡ layoutSet h cs n
+nodes-of-rows : (h : ℕ) (cs : List ℕ) (n : ℕ) → h ≤ 12 → nodesBut h (rowsOf cs) 0 n ≡ layoutSet h cs n
 unfolding nodesBut
 nodes-of-rows h cs n low = ap (λ t. t && not (eqb n 0)) (rows-hold-layout h cs n low) ∙ by-node n
   where
@@ -154,8 +139,8 @@ module _ {h : ℕ} {cs ds : List ℕ} {gone : ℕ} {T owners : List ℕ} (p : Re
       record {
         height = p .height;
         near = λ l q. p .near l;
-        old-within = λ l q. rows-within h cs (p .old-fits) l;
-        new-within = λ l q. rows-within h ds (p .new-fits) l;
+        old-within = rows-within h cs (p .old-fits);
+        new-within = rows-within h ds (p .new-fits);
         owned = λ n e. omega (arith, p .owned n (sym (p .held n) ∙ e));
         few = rw count-of-table (p .few);
       }

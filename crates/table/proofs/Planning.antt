@@ -11,11 +11,11 @@ use borrow.Author.Tests.{lt-ltb, le-ltb, le-leb, lt-leb, eq-eqb, ne-eqb}
 use lib.Dec.{eqb, ltb}
 use lib.ListN.{length, getD, length-append, length-map, List·getD-eq-default}
 use Rattle.tree.specs.Held.{Nodes}
-use Rattle.layout.specs.Rows.{no-index, startAt, runAt, holdsNode}
+use Rattle.layout.specs.Rows.{no-index, holdsNode}
 use Rattle.layout.specs.declared.Layout.{Layout}
 use Rattle.table.specs.Pairing.{shiftsFrom, shifts, newcomer}
 use Rattle.table.specs.Plan.{rowHolds, onlyFrom, movesIn, nodesAt, spareIndex, moveOf, Shiftable, LevelShifted}
-use Rattle.table.specs.Plan.{nodeOn, nodesBut, shiftsAt, shiftsOf, newcomerOn, LevelWithin, Plannable, LevelPlanned, AllPlanned}
+use Rattle.table.specs.Plan.{nodeOn, nodesBut, shiftsAt, shiftsOf, newcomerOn, Plannable, LevelPlanned, AllPlanned}
 use Rattle.table.specs.declared.plan.Row.{Row}
 use Rattle.table.specs.declared.plan.Shifted.{Shifted}
 use Rattle.table.specs.declared.plan.Planned.{Planned}
@@ -28,13 +28,6 @@ row-index {b} r i q e =
     elim (decLt i b) [
       | yes s ↦ s
       | no s ↦ absurd (false≢true (sym (r .none-past i (omega arith) q) ∙ e))
-    ]
-
-run-fits : (m : ℕ) (L : Layout) (l : ℕ) → LevelWithin m L l → m ≤ 4096 → startAt L l < 2 ^ 16 → startAt L l + runAt L l ≤ 2 ^ 16
-run-fits m L l within small fits =
-    elim (decLt 0 (runAt L l)) [
-      | yes q ↦ omega (arith, within .run-within q)
-      | no q ↦ omega arith
     ]
 
 -- the place left over is in the new row, if there is one
@@ -56,13 +49,12 @@ node-of-index b (x ∷ xs) zero below = rw (ne-eqb x no-index (omega (arith, bel
 node-of-index b (x ∷ xs) (suc k) below = node-of-index b xs k (λ q. below (omega arith))
 
 module _ {h : ℕ} {old new : Layout} {gone : ℕ} {owners : List ℕ} (p : Plannable h old new gone owners) (l : ℕ) (q : l ≤ h) where
-  pub level-shiftable : startAt old l < 2 ^ 16 → startAt new l < 2 ^ 16
-      → Shiftable (2 ^ (h - l)) (oldRow h old gone l) (newRow new l) owners
-  level-shiftable f g =
+  pub level-shiftable : Shiftable (2 ^ (h - l)) (oldRow h old gone l) (newRow new l) owners
+  level-shiftable =
       record {
         near = p .near l q;
-        old-fits = run-fits (2 ^ (h - l)) old l (p .old-within l q) (few-nodes p l q) f;
-        new-fits = run-fits (2 ^ (h - l)) new l (p .new-within l q) (few-nodes p l q) g;
+        old-fits = omega (arith, p .old-within l q .run-within, few-nodes p l q);
+        new-fits = omega (arith, p .new-within l q .run-within, few-nodes p l q);
         leaves = λ i r e.
             let s = row-index (old-row p l q) i r e in
             (omega (arith, few-nodes p l q), p .owned (2 ^ (h - l) + i) (sym (old-row p l q .same i s) ∙ e));

@@ -68,7 +68,7 @@ none-past-level m L l hole i within q r =
     by-tests true f true g =
         let lo = leb-true (startAt L l) i f in
         let hi = ltb-true i (startAt L l + runAt L l) g in
-        absurd (omega (arith, within .run-within (omega arith)))
+        absurd (omega (arith, within .run-within))
     by-tests true f false g = refl
     by-tests false f t g = refl
 

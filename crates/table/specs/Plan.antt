@@ -105,7 +105,7 @@ newcomerOn h old new gone x = cond (leb x h) (newcomer h (nodesBut h old gone) (
 
 -- level l of the layout has no index from m on
 pub record LevelWithin (m : ℕ) (L : Layout) (l : ℕ) : Type 0 where
-  pub run-within : 0 < runAt L l → startAt L l + runAt L l ≤ m
+  pub run-within : startAt L l + runAt L l ≤ m
   pub lone-within : loneAt L l < no-index → loneAt L l < m
 
 -- What is asked of two layouts: the runs of each level are near, both lie in the tree, every old node but the one given up has a tenant,

@@ -75,7 +75,7 @@ pub fn least(old: Row, new: Row, from: u16) -> u16
     better(old, new, from, new.hole, with_lone)
 }
 
-// At most four moves, in order: the first `n` entries.
+// At most four moves, in order: the first `n` entries. What the others hold means nothing.
 pub struct Plan {
     pub n: usize,
     pub moves: [Move; 4],

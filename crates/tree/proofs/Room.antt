@@ -52,7 +52,7 @@ coverings-are-pages h B within =
 
 -- ---- by pages
 
-over-has-page : (p l : ℕ) → (first (over p l) ≤ p) × (p < past (over p l))
+pub over-has-page : (p l : ℕ) → (first (over p l) ≤ p) × (p < past (over p l))
 over-has-page p l = omega (arith, div-mul-le-self p (2 ^ l), lt-div-mul-add {a = p} (pow-pos l))
 
 -- two blocks that have page p

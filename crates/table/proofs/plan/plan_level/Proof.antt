@@ -5,9 +5,6 @@ use Prim.Native.Nat.{ℕ, _-_, _^_}
 use borrow.Author.Needs.{needs}
 use borrow.Author.Tests.{eq-eqb, ne-eqb}
 use lib.Dec.{eqb}
-use mir.Syntax.{w16}
-use mir.Val.{Fits}
-use Rattle.layout.specs.Rows.{startAt}
 use Rattle.table.specs.Plan.{rowOf, indexOn, nodeOn, LevelShifted, LevelPlanned}
 use Rattle.table.proofs.RowNodes.{oldRow, newRow, level-shifts}
 use Rattle.table.proofs.Planning.{level-shiftable, spare-fits, level-planned}
@@ -39,18 +36,12 @@ old-row-is c =
     let hole = c .before .index-on .ensures ∙ ap (λ (b : ℕ). indexOn b (a .gone)) (c .before .before .before .power .ensures) in
     c .row-of .ensures ∙ ap (rowOf (a .old) (a .level)) hole
 
-old-start-fits : (c : tie.Start) → Fits w16 (startAt (c .args .old) (c .args .level))
-old-start-fits c = search needs
-
-new-start-fits : (c : tie.Start) → Fits w16 (startAt (c .args .new) (c .args .level))
-new-start-fits c = search needs
-
 shift-level-requires : tie.Need-shift-level-requires
 shift-level-requires c κs =
     let s = c .before .before .before .before .before in
     let l = s .args .level in
     rw (c .before .before .before .before .power .ensures, old-row-is (c .before), c .row-of2 .ensures)
-    (level-shiftable (s .pre .0) l (s .pre .1 .0) (old-start-fits s .fits) (new-start-fits s .fits), rw (level-shifts (s .pre .0) l (s .pre .1 .0)) (s .pre .1 .1))
+    (level-shiftable (s .pre .0) l (s .pre .1 .0), rw (level-shifts (s .pre .0) l (s .pre .1 .0)) (s .pre .1 .1))
 
 abbrev start : tie.After-shift-level → tie.Start
 start c = c .before .before .before .before .before .before

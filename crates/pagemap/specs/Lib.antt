@@ -1,0 +1,4 @@
+pub mod Map
+pub mod Draw
+pub mod Count
+pub mod Flags

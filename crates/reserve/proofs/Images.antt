@@ -1,0 +1,180 @@
+-- Numbers and their bytes: one more number at the end, and there and back.
+use mathlib.Core.Path.{_≡_, refl, sym, ap, ap₂, _∙_}
+use mathlib.Core.Bool.{cond}
+use mathlib.Core.List.{List, [], _∷_, _++_, append-assoc, append-nil}
+use Prim.Native.Nat.{ℕ, zero, suc, _+_, _*_, _≤_, _<_}
+use native.Mathlib.Numerals.{add-one}
+use native.Mathlib.Omega.{arith}
+use borrow.Author.Tests.{eq-eqb, ne-eqb}
+use lib.Dec.{eqb}
+use lib.ListN.{length, getD, take, drop, set, length-append, length-drop, drop-of-length-le}
+use lib.Seq.{take-all, drop-cons, drop-drop, take-suc, take-suc-set, take-at, length-take-le, drop-append-add, sets, sets-eq}
+use Rattle.table.specs.declared.Move.{Move}
+use Rattle.calls.specs.Accepted.{nobody}
+use Rattle.journal.specs.Format.{low, high, word, wordAt}
+use Rattle.journal.specs.Journal.{Bytes}
+use Rattle.reserve.specs.Image.{imageOf, numbersIn, tableOf, numbersOf, moveBytes}
+
+-- ---- lengths
+
+pub image-length : (ns : List ℕ) → length (imageOf ns) ≡ 2 * length ns
+unfolding imageOf
+image-length [] = refl
+image-length (n ∷ ns) = omega (arith, image-length ns)
+
+numbers-of-length : (ms : List Move) → length (numbersOf ms) ≡ 3 * length ms
+unfolding numbersOf
+numbers-of-length [] = refl
+numbers-of-length (m ∷ ms) = omega (arith, numbers-of-length ms)
+
+pub move-bytes-length : (ms : List Move) → length (moveBytes ms) ≡ 6 * length ms
+move-bytes-length ms = omega (arith, image-length (numbersOf ms), numbers-of-length ms)
+
+-- ---- one more at the end
+
+image-append : (a b : List ℕ) → imageOf (a ++ b) ≡ imageOf a ++ imageOf b
+unfolding imageOf
+image-append [] b = refl
+image-append (n ∷ a) b = ap (λ (s : List ℕ). low n ∷ high n ∷ s) (image-append a b)
+
+numbers-append : (a b : List Move) → numbersOf (a ++ b) ≡ numbersOf a ++ numbersOf b
+unfolding numbersOf
+numbers-append [] b = refl
+numbers-append (m ∷ a) b = ap (λ (s : List ℕ). m .tenant ∷ m .from ∷ m .to ∷ s) (numbers-append a b)
+
+image-of-more : (T : List ℕ) (i : ℕ) → i < length T → imageOf (take (i + 1) T) ≡ imageOf (take i T) ++ imageOf (getD T i 0 ∷ [])
+image-of-more T i p = rw (add-one, take-suc T i 0 p) (image-append (take i T) (getD T i 0 ∷ []))
+
+move-bytes-of-more : (ms : List Move) (i : ℕ) → i < length ms
+    → moveBytes (take (i + 1) ms) ≡ moveBytes (take i ms) ++ moveBytes (getD ms i nobody ∷ [])
+move-bytes-of-more ms i p =
+    let m = getD ms i nobody in
+    rw (add-one, take-suc ms i nobody p, numbers-append (take i ms) (m ∷ [])) (image-append (numbersOf (take i ms)) (numbersOf (m ∷ [])))
+
+-- a run of stores right behind what is done
+module _ (done s : List ℕ) (at : ℕ) (e : length done ≡ at) where
+  past-done : (k : ℕ) → drop (at + k) (done ++ drop at s) ≡ drop (at + k) s
+  past-done k = ap (λ (n : ℕ). drop (n + k) (done ++ drop at s)) (sym e) ∙ drop-append-add done (drop at s) k ∙ drop-drop k at s
+
+  stored-behind : (vs : List ℕ) → at + length vs ≤ length s → sets (done ++ drop at s) at vs ≡ (done ++ vs) ++ drop (at + length vs) s
+  stored-behind vs p =
+      sets-eq vs (done ++ drop at s) at (omega (arith, length-append done (drop at s), length-drop at s))
+      ∙ ap₂ (λ (a b : List ℕ). a ++ vs ++ b) (take-at done (drop at s) at e) (past-done (length vs))
+
+pub encoded-more : (image₀ nodes image : List ℕ) (i : ℕ) → image ≡ imageOf (take i nodes) ++ drop (2 * i) image₀
+    → i < length nodes → 2 * i + 2 ≤ length image₀
+    → set (set image (2 * i) (low (getD nodes i 0))) (2 * i + 1) (high (getD nodes i 0)) ≡ imageOf (take (i + 1) nodes) ++ drop (2 * (i + 1)) image₀
+unfolding imageOf
+encoded-more image₀ nodes image i inv p q =
+    let done = imageOf (take i nodes) in
+    let e : length done ≡ 2 * i = omega (arith, image-length (take i nodes), length-take-le i nodes (omega arith)) in
+    let next : 2 * (i + 1) ≡ 2 * i + 2 = omega arith in
+    rw (inv, add-one (2 * i), next, image-of-more nodes i p) (stored-behind done image₀ (2 * i) e (imageOf (getD nodes i 0 ∷ [])) q)
+
+pub encoded-all : (image₀ nodes image : List ℕ) → image ≡ imageOf (take 4096 nodes) ++ drop 8192 image₀
+    → length nodes ≡ 4096 → length image₀ ≡ 8192 → image ≡ imageOf nodes
+encoded-all image₀ nodes image inv p q =
+    let whole : take 4096 nodes ≡ nodes = take-all 4096 nodes (omega arith) in
+    let none : drop 8192 image₀ ≡ [] = drop-of-length-le image₀ {i = 8192} (omega arith) in
+    inv ∙ ap₂ (λ (a b : List ℕ). imageOf a ++ b) whole none ∙ append-nil (imageOf nodes)
+
+pub put-more : (list₀ : List ℕ) (ms : List Move) (list : List ℕ) (i : ℕ) → list ≡ moveBytes (take i ms) ++ drop (6 * i) list₀
+    → i < length ms → 6 * i + 6 ≤ length list₀
+    → sets list (6 * i) (moveBytes (getD ms i nobody ∷ [])) ≡ moveBytes (take (i + 1) ms) ++ drop (6 * (i + 1)) list₀
+unfolding imageOf numbersOf
+put-more list₀ ms list i inv p q =
+    let done = moveBytes (take i ms) in
+    let e : length done ≡ 6 * i = omega (arith, move-bytes-length (take i ms), length-take-le i ms (omega arith)) in
+    let next : 6 * (i + 1) ≡ 6 * i + 6 = omega arith in
+    rw (inv, next, move-bytes-of-more ms i p) (stored-behind done list₀ (6 * i) e (moveBytes (getD ms i nobody ∷ [])) q)
+
+-- three numbers stored one after the other are one run
+pub three-numbers : (l : List ℕ) (at a b c : ℕ)
+    → set (set (set (set (set (set l at (low a)) (at + 1) (high a)) (at + 2) (low b)) (at + 2 + 1) (high b)) (at + 4) (low c)) (at + 4 + 1) (high c)
+    ≡ sets l at (imageOf (a ∷ b ∷ c ∷ []))
+unfolding imageOf
+three-numbers l at a b c =
+    let five : at + 4 + 1 ≡ suc (suc (suc (suc (suc at)))) = omega arith in
+    let four : at + 4 ≡ suc (suc (suc (suc at))) = omega arith in
+    let three : at + 2 + 1 ≡ suc (suc (suc at)) = omega arith in
+    let two : at + 2 ≡ suc (suc at) = omega arith in
+    rw (five, four, three, two, add-one at)
+
+-- ---- the table of an image
+
+pub table-of-other : (image : List ℕ) → ¬ (length image ≡ 8192) → tableOf image ≡ []
+unfolding tableOf
+table-of-other image ne = rw (ne-eqb (length image) 8192 ne)
+
+pub table-of-whole : (image : List ℕ) → length image ≡ 8192 → tableOf image ≡ numbersIn image
+unfolding tableOf
+table-of-whole image e = rw (eq-eqb (length image) 8192 e)
+
+-- ---- one number more read
+
+next-number : (s : List ℕ) (i : ℕ) → 2 * i + 1 < length s
+    → numbersIn (drop (2 * i) s) ≡ wordAt s (2 * i) ∷ numbersIn (drop (2 * (i + 1)) s)
+unfolding numbersIn
+next-number s i p =
+    let two : 2 * (i + 1) ≡ suc (suc (2 * i)) = omega arith in
+    rw (two, add-one (2 * i), drop-cons s (2 * i) 0 (omega arith), drop-cons s (suc (2 * i)) 0 (omega arith))
+
+pub decoded-more : (s nodes : List ℕ) (i : ℕ) → take i nodes ++ numbersIn (drop (2 * i) s) ≡ numbersIn s
+    → i < length nodes → 2 * i + 1 < length s
+    → take (i + 1) (set nodes i (wordAt s (2 * i))) ++ numbersIn (drop (2 * (i + 1)) s) ≡ numbersIn s
+decoded-more s nodes i inv p q =
+    let w = wordAt s (2 * i) in
+    let rest = numbersIn (drop (2 * (i + 1)) s) in
+    ap (λ (k : ℕ). take k (set nodes i w) ++ rest) (add-one i)
+    ∙ ap (λ (l : List ℕ). l ++ rest) (take-suc-set nodes i w p)
+    ∙ append-assoc (take i nodes) (w ∷ []) rest
+    ∙ ap (λ (l : List ℕ). take i nodes ++ l) (sym (next-number s i q))
+    ∙ inv
+
+pub decoded-all : (s nodes : List ℕ) → length s ≡ 8192 → take 4096 nodes ++ numbersIn (drop 8192 s) ≡ numbersIn s → take 4096 nodes ≡ tableOf s
+unfolding numbersIn
+decoded-all s nodes e inv =
+    sym (append-nil (take 4096 nodes))
+    ∙ ap (λ (l : List ℕ). take 4096 nodes ++ numbersIn l) (sym (drop-of-length-le s {i = 8192} (omega arith)))
+    ∙ inv
+    ∙ sym (table-of-whole s e)
+
+-- ---- there and back
+
+numbers-of-image : (T : List ℕ) → numbersIn (imageOf T) ≡ T
+unfolding numbersIn imageOf
+numbers-of-image [] = refl
+numbers-of-image (n ∷ T) = ap₂ (λ (x : ℕ) (xs : List ℕ). x ∷ xs) (whole n) (numbers-of-image T)
+  where
+    whole : (n : ℕ) → word (low n) (high n) ≡ n
+    whole n = omega arith
+
+-- a table is what its image stands for
+pub table-of-image : (T : List ℕ) → length T ≡ 4096 → tableOf (imageOf T) ≡ T
+table-of-image T e = table-of-whole (imageOf T) (omega (arith, image-length T)) ∙ numbers-of-image T
+
+image-of-numbers : (k : ℕ) (s : List ℕ) → length s ≡ 2 * k → Bytes s → imageOf (numbersIn s) ≡ s
+unfolding numbersIn imageOf
+image-of-numbers k [] e b = refl
+image-of-numbers k (lo ∷ []) e b = absurd (omega arith)
+image-of-numbers zero (lo ∷ hi ∷ s) e b = absurd (omega arith)
+image-of-numbers (suc k) (lo ∷ hi ∷ s) e b =
+    rw (low-of-word lo hi (b 0), high-of-word lo hi (b 0), image-of-numbers k s (omega arith) (λ i. b (suc (suc i))))
+  where
+    low-of-word : (lo hi : ℕ) → lo < 256 → low (word lo hi) ≡ lo
+    low-of-word lo hi p = omega arith
+
+    high-of-word : (lo hi : ℕ) → lo < 256 → high (word lo hi) ≡ hi
+    high-of-word lo hi p = omega arith
+
+-- the image of what 8,192 bytes stand for is those bytes: to write a table back that did not change changes no byte
+pub image-of-table : (image : List ℕ) → length image ≡ 8192 → Bytes image → imageOf (tableOf image) ≡ image
+image-of-table image e b = rw (table-of-whole image e) (image-of-numbers 4096 image e b)
+
+-- the image of numbers of 16 bits is made of bytes
+pub image-bytes : (T : List ℕ) → ((i : ℕ) → getD T i 0 < 65536) → Bytes (imageOf T)
+unfolding imageOf
+image-bytes [] p i = omega arith
+image-bytes (n ∷ T) p zero = omega arith
+image-bytes (n ∷ T) p (suc zero) = omega (arith, p 0)
+image-bytes (n ∷ T) p (suc (suc i)) = image-bytes T (λ j. p (suc j)) i

@@ -1,0 +1,71 @@
+-- `reserve::finish` meets its contract: only an answer 0 writes.
+use mathlib.Core.Path.{_≡_, sym, _∙_}
+use native.Mathlib.Omega.{arith}
+use Rattle.calls.specs.Value.{numberOf, valueOf}
+use Rattle.reserve.proofs.Reports.{report-refused, report-done}
+use borrow.Author.Needs.{needs}
+use Rattle.reserve.proofs.finish.Statement.{statement}
+use Rattle.reserve.proofs.finish.Tie as tie
+
+number-of-requires : tie.Need-number-of-requires
+number-of-requires c κs = search needs
+
+node-of-requires : tie.Need-node-of-requires
+node-of-requires c κs = search needs
+
+move-count-requires : tie.Need-move-count-requires
+move-count-requires c κs = search needs
+
+cast-count : tie.Need-cast-count
+cast-count c = search needs
+
+returns : tie.Need-returns
+returns c =
+    let a = c .before .before .before .before .before .before .before .args in
+    let numbered = c .before .before .before .before .number-of in
+    report-refused (valueOf (a .called) (a .nodes .now)) (a .table .now) (a .moves .now) _ (numbered .ensures) (c .before .before .before .node-of .ensures)
+    (c .before .move-count .ensures .0) (λ z. omega (arith, c .if1 .taken, numbered .ensures ∙ z))
+
+-- past the test the answer is 0
+accepted : (x : tie.Else1) → numberOf (x .before .before .before .before .before .before .before .args .called .answer) ≡ 0
+accepted x =
+    let zero : x .before .before .before .before .number-of .result ≡ 0 = omega (arith, x .if1 .left) in
+    sym (x .before .before .before .before .number-of .ensures) ∙ zero
+
+encode-requires : tie.Need-encode-requires
+encode-requires c κs =
+    let x = c .before in
+    (x .before .before .before .before .before .before .before .pre .0, x .before .before .before .before .before .before .before .pre .1 .table (accepted x))
+
+put-moves-requires : tie.Need-put-moves-requires
+put-moves-requires c κs =
+    let x = c .before .before .before .before .before in
+    x .before .before .before .before .before .before .before .pre .1 .moves (accepted x)
+
+same-length : tie.Need-same-length
+same-length c = search needs
+
+same-length-2 : tie.Need-same-length-2
+same-length-2 c = search needs
+
+returns-2 : tie.Need-returns-2
+returns-2 c =
+    let x = c .before .before .before .before .before .before .before .before in
+    let a = x .before .before .before .before .before .before .before .args in
+    report-done (valueOf (a .called) (a .nodes .now)) (a .table .now) (a .moves .now) _ (sym (accepted x)) (x .before .before .before .node-of .ensures)
+    (x .before .move-count .ensures .0) (accepted x) _ _ (c .before .before .before .before .before .before .encode .ensures) (c .before .before .put-moves .ensures)
+
+pub finish-spec : {M : Type 1} → statement M
+finish-spec =
+    tie.close
+    (tie.spec
+    number-of-requires
+    node-of-requires
+    move-count-requires
+    cast-count
+    returns
+    encode-requires
+    put-moves-requires
+    same-length
+    same-length-2
+    returns-2)

@@ -1,0 +1,81 @@
+-- `reserve::image::encode` meets its contract. The loop's invariant: the bytes passed are the image of the entries passed, the others as they were.
+-- The measure is how many entries are left.
+use mathlib.Core.Path.{_≡_, refl, sym, _∙_}
+use mathlib.Core.List.{_++_}
+use Prim.Native.Nat.{_+_, _*_, _-_, _≤_, _<_, zero-le}
+use native.Mathlib.Omega.{arith}
+use borrow.Author.Needs.{needs}
+use lib.ListN.{length, take, drop}
+use Rattle.reserve.specs.Image.{imageOf}
+use Rattle.reserve.proofs.Images.{encoded-more, encoded-all}
+use Rattle.reserve.proofs.image.encode.Statement.{statement}
+use Rattle.reserve.proofs.image.encode.Tie as tie
+
+abbrev Inv-loop : tie.InvT-loop
+Inv-loop nodes image₀ i₀ image i = (i ≤ 4096) × (image ≡ imageOf (take i nodes) ++ drop (2 * i) image₀) × (length image ≡ 8192)
+
+abbrev μ-loop : tie.MeasureT-loop
+μ-loop nodes image₀ i₀ image i = 4096 - i
+
+loop-holds : tie.Need-loop-holds Inv-loop μ-loop
+unfolding imageOf
+loop-holds c = (zero-le, refl, c .before .pre .1)
+
+mul-put-word : tie.Need-mul-put-word Inv-loop μ-loop
+mul-put-word c = omega arith
+
+mul-put-word-2 : tie.Need-mul-put-word-2 Inv-loop μ-loop
+mul-put-word-2 c = search needs
+
+element-copy-out-put-word : tie.Need-element-copy-out-put-word Inv-loop μ-loop
+element-copy-out-put-word c = omega arith
+
+put-word-requires : tie.Need-put-word-requires Inv-loop μ-loop
+put-word-requires c κs = omega arith
+
+add-i : tie.Need-add-i Inv-loop μ-loop
+add-i c = omega arith
+
+loop-less : tie.Need-loop-less Inv-loop μ-loop
+loop-less c = omega arith
+
+loop-again : tie.Need-loop-again Inv-loop μ-loop
+loop-again c =
+    let at-loop = c .before .before .before .before .before .before in
+    let start = at-loop .before .before in
+    let called = c .before .before .put-word in
+    let i = at-loop .loop .i in
+    let in-table : i < length (start .args .nodes .now) = omega (arith, start .pre .0) in
+    let in-image : 2 * i + 2 ≤ length (start .args .image .now) = omega (arith, start .pre .1) in (
+      omega arith,
+      called .ensures
+          ∙ encoded-more (start .args .image .now) (start .args .nodes .now) (at-loop .loop .image) i (at-loop .loop .inv .1) in-table in-image,
+      called .kept .0 ∙ at-loop .loop .inv .2,
+    )
+
+same-length : tie.Need-same-length Inv-loop μ-loop
+same-length c = c .before .loop .inv .2 ∙ sym (c .before .before .before .pre .1)
+
+returns : tie.Need-returns Inv-loop μ-loop
+returns c =
+    let at-loop = c .before in
+    let start = at-loop .before .before in
+    let all : at-loop .loop .i ≡ 4096 = omega arith in
+    encoded-all (start .args .image .now) (start .args .nodes .now) (at-loop .loop .image) (rw all at (at-loop .loop .inv .1)) (start .pre .0) (start .pre .1)
+
+pub encode-spec : {M : Type 1} → statement M
+encode-spec =
+    tie.close
+    (tie.spec
+    Inv-loop
+    μ-loop
+    loop-holds
+    mul-put-word
+    mul-put-word-2
+    element-copy-out-put-word
+    put-word-requires
+    add-i
+    loop-less
+    loop-again
+    same-length
+    returns)

@@ -1,0 +1,67 @@
+-- `reserve::reserve_open` meets its contract, by what `calls::open` does to the table of the image.
+use mathlib.Core.Path.{_≡_, sym, _∙_}
+use borrow.Author.Needs.{needs}
+use lib.ListN.{length, take}
+use Rattle.reserve.proofs.Reports.{front-count, open-answer, open-refused, open-finishes, open-done}
+use Rattle.reserve.proofs.reserve_open.Statement.{statement}
+use Rattle.reserve.proofs.reserve_open.Tie as tie
+
+decode-requires : tie.Need-decode-requires
+decode-requires c κs = search needs
+
+array-borrow-prefix-nodes : tie.Need-array-borrow-prefix-nodes
+array-borrow-prefix-nodes c = search needs
+
+slice-aggregate-open : tie.Need-slice-aggregate-open
+slice-aggregate-open c = front-count (c .before .decode .ensures)
+
+open-requires : tie.Need-open-requires
+open-requires c κs = search needs
+
+number-of-requires : tie.Need-number-of-requires
+number-of-requires c κs = search needs
+
+same-length : tie.Need-same-length
+same-length c = search needs
+
+-- the call leaves the part of the array as long as it was
+kept : (x : tie.After-open) → length (x .«open» .last .1 .0) ≡ length (take (x .before .before .decode .result) (x .before .before .decode .last .1 .0))
+kept x = search needs
+
+returns : tie.Need-returns
+returns c =
+    let x = c .before .before .before in
+    let named = c .before .number-of .ensures in
+    let d = x .before .before .decode .ensures in
+    (open-answer (x .before .before .before .before .before .before .args .height) (x .«open» .result) d (kept x) (x .«open» .ensures) named, open-refused (x .before .before .before .before .before .before .args .height) (x .«open» .result) d (kept x) (x .«open» .ensures) named (c .if1 .taken))
+
+encode-requires : tie.Need-encode-requires
+encode-requires c κs =
+    let x = c .before .before .before .before .before in
+    open-finishes (x .before .before .before .before .before .before .args .height) (x .«open» .result) (x .before .before .decode .ensures) (kept x) (x .«open» .ensures) (c .before .before .before .number-of .ensures) (c .before .before .if1 .left)
+
+same-length-2 : tie.Need-same-length-2
+same-length-2 c = search needs
+
+returns-2 : tie.Need-returns-2
+returns-2 c =
+    let x = c .before .before .before .before .before .before .before .before in
+    let named = c .before .before .before .before .before .before .number-of .ensures in
+    let zero = c .before .before .before .before .before .if1 .left in
+    let d = x .before .before .decode .ensures in
+    (sym zero ∙ open-answer (x .before .before .before .before .before .before .args .height) (x .«open» .result) d (kept x) (x .«open» .ensures) named, c .before .before .encode .ensures ∙ open-done (x .before .before .before .before .before .before .args .height) (x .«open» .result) d (kept x) (x .«open» .ensures) named zero)
+
+pub reserve-open-spec : {M : Type 1} → statement M
+reserve-open-spec =
+    tie.close
+    (tie.spec
+    decode-requires
+    array-borrow-prefix-nodes
+    slice-aggregate-open
+    open-requires
+    number-of-requires
+    same-length
+    returns
+    encode-requires
+    same-length-2
+    returns-2)

@@ -1,0 +1,32 @@
+-- Numbers of 16 bits as bytes, the low byte first. Document 01, "Calls": the table as 8,192 bytes, a move as six.
+use mathlib.Core.Bool.{cond}
+use mathlib.Core.List.{List, [], _∷_, _++_}
+use Prim.Native.Nat.{ℕ}
+use lib.Dec.{eqb}
+use lib.ListN.{length}
+use Rattle.table.specs.declared.Move.{Move}
+use Rattle.journal.specs.Format.{low, high, word}
+
+-- the bytes of numbers
+unfoldable pub imageOf : List ℕ → List ℕ
+imageOf [] = []
+imageOf (n ∷ ns) = low n ∷ high n ∷ imageOf ns
+
+-- the numbers of pairs of bytes; an odd byte at the end is none
+unfoldable pub numbersIn : List ℕ → List ℕ
+numbersIn [] = []
+numbersIn (lo ∷ []) = []
+numbersIn (lo ∷ hi ∷ bytes) = word lo hi ∷ numbersIn bytes
+
+-- the table that an image stands for: bytes of another length than 8,192 stand for a table without entries, which every call refuses
+unfoldable pub tableOf : List ℕ → List ℕ
+tableOf image = cond (eqb (length image) 8192) (numbersIn image) []
+
+-- the numbers of moves: tenant, old node, new node
+unfoldable pub numbersOf : List Move → List ℕ
+numbersOf [] = []
+numbersOf (m ∷ ms) = m .tenant ∷ m .from ∷ m .to ∷ numbersOf ms
+
+-- six bytes to a move
+abbrev pub moveBytes : List Move → List ℕ
+moveBytes ms = imageOf (numbersOf ms)

@@ -1,0 +1,77 @@
+// Numbers of 16 bits as bytes, the low byte first: the image of a table and of a list of moves.
+ghost use mathlib.Core.Path.{_≡_};
+ghost use mathlib.Core.List.{[], _∷_, _++_};
+ghost use Prim.Native.Nat.{_+_, _*_, _≤_};
+ghost use lib.ListN.{length, drop};
+ghost use lib.Seq.{sets};
+ghost use Rattle.table.specs.Plan.{movesIn};
+ghost use Rattle.reserve.specs.Image.{imageOf, moveBytes};
+ghost use Rattle.reserve.specs.Door.{Decoded};
+use journal::put_word;
+use journal::word;
+use table::Move;
+use table::plan::Plan;
+
+// Reads the table that an image stands for into the front of the array, and says how many entries it has: none if the image does not have 8,192
+// bytes.
+pub fn decode(image: &[u8], nodes: &mut [u16; 4096]) -> usize
+    requires { ⌜ length (now nodes) ≡ 4096 ⌝ }
+    ensures { λ r. ⌜ Decoded (now (image .entry)) (now (nodes .exit)) r ⌝ }
+{
+    if image.len() != 8192 {
+        return 0;
+    }
+    let mut i = 0;
+    while i < 4096 {
+        nodes[i] = word(image[2 * i], image[2 * i + 1]);
+        i += 1;
+    }
+    4096
+}
+
+// Writes the image of a table.
+pub fn encode(nodes: &[u16; 4096], image: &mut [u8])
+    requires { ⌜ (length (now nodes) ≡ 4096) × (length (now image) ≡ 8192) ⌝ }
+    ensures { λ _. ⌜ now (image .exit) ≡ imageOf (now (nodes .entry)) ⌝ }
+{
+    let mut i = 0;
+    while i < 4096 {
+        put_word(image, 2 * i, nodes[i]);
+        i += 1;
+    }
+}
+
+// How many moves a plan has.
+pub fn move_count(plan: Plan) -> usize
+    ensures count { λ r. ⌜ r ≡ length (movesIn plan) ⌝ }
+    ensures few { λ r. ⌜ r ≤ 4 ⌝ }
+{
+    if 4 < plan.n {
+        return 4;
+    }
+    plan.n
+}
+
+// Writes the six bytes of a move at an index.
+fn put_move(list: &mut [u8], at: usize, m: Move)
+    requires { ⌜ at + 6 ≤ length (now list) ⌝ }
+    ensures { λ _. ⌜ now (list .exit) ≡ sets (now (list .entry)) at (moveBytes (m ∷ [])) ⌝ }
+{
+    put_word(list, at, m.tenant);
+    put_word(list, at + 2, m.from);
+    put_word(list, at + 4, m.to);
+}
+
+// Writes the moves of a plan from the front of the list, and leaves the bytes after them.
+pub fn put_moves(plan: Plan, list: &mut [u8])
+    requires { ⌜ 24 ≤ length (now list) ⌝ }
+    ensures { λ _. ⌜ now (list .exit) ≡ moveBytes (movesIn plan) ++ drop (6 * length (movesIn plan)) (now (list .entry)) ⌝ }
+{
+    let n = move_count(plan);
+    let moves = plan.moves;
+    let mut k = 0;
+    while k < n {
+        put_move(list, 6 * k, moves[k]);
+        k += 1;
+    }
+}

@@ -1,0 +1,177 @@
+/*
+ * reserve.h - a planner for a reserve of pages.
+ *
+ * THE RESERVE
+ *
+ * A reserve of height h, 0 to 12, has 2^h pages, numbered from 0. They are the leaves of a complete binary tree, left to
+ * right. Its nodes are numbered: the root is 1, and node n has the children 2n and 2n + 1. A node's depth is the place of
+ * its highest one bit, counted from 0; its level is h less its depth. A node of level l covers 2^l pages: the k-th node of
+ * its level, k = n - 2^(h-l), covers the pages k * 2^l to (k + 1) * 2^l - 1.
+ *
+ * Tenants are numbered 0 to 4095. Each holds at most one block, and a block is one node. Where the blocks lie depends on
+ * nothing but how many are held on each level, so a grant or a release may have to move other tenants: a grant at most
+ * three, a release at most four. The planner says who moves from where to where. Copying the pages is the caller's work,
+ * and has to be done, from the top of the list to its end, before the next call on the same table.
+ *
+ * WHAT IS LENT
+ *
+ * There is no state but the table, which is the caller's. Every function reads and writes only the bytes that it is lent,
+ * only while it runs, and keeps no pointer. It allocates nothing, calls nothing, uses less than 32 KiB of stack and
+ * always returns. Calls on different bytes may run at the same time; bytes that a call is lent must not be used by anybody
+ * else until it returns, and the table and the list of one call must not overlap. A pointer may be null if its length is 0.
+ *
+ * BYTES
+ *
+ * All lengths and offsets count bytes. Numbers of two bytes have the low byte first, whatever the machine's own order:
+ *
+ *   table   RESERVE_TABLE_BYTES bytes: for each tenant, by number, two bytes with its node, or 0 if it holds nothing
+ *   list    RESERVE_MOVE_BYTES bytes for each move: the tenant, its old node, its new node; two bytes each
+ *   map     RESERVE_MAP_BYTES bytes: page i is bit i mod 8 of byte i / 8, and bit 0 weighs 1; set if a held block covers the page
+ *   record  of a journal: one byte of kind and a body (RESERVE_KIND_..., below)
+ *
+ * ANSWERS
+ *
+ * Every function answers 0, RESERVE_DONE, or the number of a refusal. The conditions are tested in the order of their
+ * numbers, those of the arguments that the function has, and the first that holds is answered. (For a journal, 16 comes
+ * before 11.) A refused call changes no byte; its other results are 0 unless said otherwise.
+ *
+ * THE SMALLEST PROGRAM
+ *
+ *   #include <stdio.h>
+ *   #include "reserve.h"
+ *
+ *   static uint8_t table[RESERVE_TABLE_BYTES];
+ *   static uint8_t list[RESERVE_LIST_BYTES];
+ *
+ *   int main(void) {
+ *       if (reserve_open(12, table, sizeof table) != RESERVE_DONE) return 1;
+ *       struct reserve_outcome got = reserve_grant_pages(12, table, sizeof table, list, sizeof list, 7, 100);
+ *       if (got.answer != RESERVE_DONE) return 1;
+ *       for (unsigned i = 0; i < got.moves; i++) {
+ *           const uint8_t *m = list + RESERVE_MOVE_BYTES * i;
+ *           printf("tenant %u: node %u to %u\n", m[0] + 256u * m[1], m[2] + 256u * m[3], m[4] + 256u * m[5]);
+ *       }
+ *       printf("tenant 7 has node %u\n", (unsigned)got.node);
+ *       return 0;
+ *   }
+ */
+#ifndef RESERVE_H
+#define RESERVE_H
+
+#include <stddef.h>
+#include <stdint.h>
+
+#ifdef __cplusplus
+extern "C" {
+#endif
+
+/* The greatest height, and the number of tenants. */
+#define RESERVE_MAX_HEIGHT 12
+#define RESERVE_TENANTS 4096
+
+/* The bytes of a table, of one move, of a list that holds the moves of any call, of a page map, and of the longest record. */
+#define RESERVE_TABLE_BYTES 8192
+#define RESERVE_MOVE_BYTES 6
+#define RESERVE_LIST_BYTES 24
+#define RESERVE_MAP_BYTES 512
+#define RESERVE_RECORD_BYTES 5
+
+/* The most bytes of a journal. */
+#define RESERVE_JOURNAL_BYTES 65536
+
+/* What a function answers. */
+enum reserve_answer {
+    RESERVE_DONE = 0,
+    RESERVE_HEIGHT = 1,        /* the height is above 12 */
+    RESERVE_TABLE = 2,         /* the table is not of 8192 bytes */
+    RESERVE_LIST = 3,          /* the list has fewer than 24 bytes */
+    RESERVE_TENANT = 4,        /* the tenant is above 4095 */
+    RESERVE_LEVEL = 5,         /* the level is above the height */
+    RESERVE_PAGES = 6,         /* the pages are more than the reserve has */
+    RESERVE_NOT_IN_ORDER = 7,  /* the table is none that this planner leaves at this height */
+    RESERVE_HOLDS = 8,         /* a grant to a tenant that holds a block */
+    RESERVE_HOLDS_NONE = 9,    /* a release by a tenant that holds none */
+    RESERVE_NO_ROOM = 10,      /* the pages held and the new block are more than the reserve has */
+    RESERVE_NO_OPEN = 11,      /* the journal is empty, or its first record is no open */
+    RESERVE_UNKNOWN_KIND = 12, /* a record of a kind that there is not */
+    RESERVE_CUT_OFF = 13,      /* the journal ends inside a record */
+    RESERVE_OPEN_AGAIN = 14,   /* an open record that is not the first */
+    RESERVE_TOO_SHORT = 15,    /* the bytes lent for a map or a record are too few */
+    RESERVE_TOO_LONG = 16      /* the journal has more than 65536 bytes */
+};
+
+/* The kinds of a journal's records, and the bodies that follow the byte of kind. */
+enum reserve_kind {
+    RESERVE_KIND_NONE = 0,        /* no record: the end, or a refusal */
+    RESERVE_KIND_OPEN = 1,        /* height, one byte */
+    RESERVE_KIND_GRANT_LEVEL = 2, /* tenant, two bytes; level, one byte */
+    RESERVE_KIND_GRANT_PAGES = 3, /* tenant, two bytes; pages, two bytes */
+    RESERVE_KIND_RELEASE = 4      /* tenant, two bytes */
+};
+
+/* What a grant or a release reports. */
+struct reserve_outcome {
+    uint16_t answer; /* enum reserve_answer */
+    uint16_t node;   /* the newcomer's node, or the node given up */
+    uint16_t moves;  /* how many moves stand at the front of the list */
+};
+
+/* What counting a map reports. */
+struct reserve_counted {
+    uint16_t answer; /* enum reserve_answer: 0 or 15 */
+    uint16_t count;  /* how many pages are set */
+};
+
+/* What stands at an offset of a journal. */
+struct reserve_reading {
+    uint16_t answer; /* enum reserve_answer: 0, or 11 to 14 or 16 */
+    uint16_t kind;   /* enum reserve_kind: 0 past the last byte */
+    uint16_t who;    /* the height of an open, else the tenant */
+    uint16_t size;   /* the level or the pages of a grant, else 0 */
+    size_t offset;   /* where the next record begins; past the last byte, the offset asked; of a refusal, the offset of the
+                        record that it concerns (0 for 11 and 16) */
+};
+
+/* What writing a record reports. */
+struct reserve_written {
+    uint16_t answer; /* enum reserve_answer: 0 or 15 */
+    size_t length;   /* how many bytes the record has taken */
+};
+
+/* Opens a reserve: every byte of the table becomes 0. Answers 0, 1 or 2. */
+uint16_t reserve_open(uint16_t height, uint8_t *table, size_t table_length);
+
+/* Grants a tenant a block of 2^level pages. Answers 0, or 1 to 5, 7, 8 or 10. */
+struct reserve_outcome reserve_grant_level(uint16_t height, uint8_t *table, size_t table_length, uint8_t *moves,
+                                           size_t moves_length, uint16_t tenant, uint16_t level);
+
+/* Grants a tenant the smallest block that has so many pages; 0 pages get a block of one. Answers 0, or 1 to 4, 6 to 8 or 10. */
+struct reserve_outcome reserve_grant_pages(uint16_t height, uint8_t *table, size_t table_length, uint8_t *moves,
+                                           size_t moves_length, uint16_t tenant, uint16_t pages);
+
+/* Releases a tenant's block. Answers 0, or 1 to 4, 7 or 9. */
+struct reserve_outcome reserve_release(uint16_t height, uint8_t *table, size_t table_length, uint8_t *moves,
+                                       size_t moves_length, uint16_t tenant);
+
+/* Draws the page map of a table into the first 512 bytes lent, and leaves those after them. Pages that the reserve does not have are
+ * not set. Answers 0, or 1, 2, 7 or 15. */
+uint16_t reserve_draw(uint16_t height, const uint8_t *table, size_t table_length, uint8_t *map, size_t map_length);
+
+/* Counts the set bits of the first 512 bytes of any map. Answers 0 or 15. */
+struct reserve_counted reserve_count(const uint8_t *map, size_t map_length);
+
+/* Reads the record at an offset of a journal. Any offset may be asked; the first record's is 0. Fields are handed out as they
+ * stand, whether or not a call would take them. */
+struct reserve_reading reserve_read(const uint8_t *journal, size_t journal_length, size_t offset);
+
+/* Each writes one record at the front of the lent bytes and leaves those after it: 2, 4, 5 and 3 bytes. Answers 0 or 15. */
+struct reserve_written reserve_write_open(uint8_t height, uint8_t *out, size_t out_length);
+struct reserve_written reserve_write_grant_level(uint16_t tenant, uint8_t level, uint8_t *out, size_t out_length);
+struct reserve_written reserve_write_grant_pages(uint16_t tenant, uint16_t pages, uint8_t *out, size_t out_length);
+struct reserve_written reserve_write_release(uint16_t tenant, uint8_t *out, size_t out_length);
+
+#ifdef __cplusplus
+}
+#endif
+
+#endif

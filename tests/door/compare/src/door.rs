@@ -1,0 +1,191 @@
+//! The functions of include/reserve.h, and the planner behind them as a subject of the comparison.
+
+use oracle::journal::{Reading, Record};
+use oracle::subject::{Count, Reach, Reply, Subject};
+
+use crate::listing;
+
+#[repr(C)]
+struct Outcome {
+    answer: u16,
+    node: u16,
+    moves: u16,
+}
+
+#[repr(C)]
+struct Read {
+    answer: u16,
+    kind: u16,
+    who: u16,
+    size: u16,
+    offset: usize,
+}
+
+#[repr(C)]
+struct Written {
+    answer: u16,
+    length: usize,
+}
+
+#[repr(C)]
+struct Counted {
+    answer: u16,
+    count: u16,
+}
+
+extern "C" {
+    fn reserve_open(height: u16, table: *mut u8, table_length: usize) -> u16;
+    fn reserve_grant_level(
+        height: u16,
+        table: *mut u8,
+        table_length: usize,
+        moves: *mut u8,
+        moves_length: usize,
+        tenant: u16,
+        level: u16,
+    ) -> Outcome;
+    fn reserve_grant_pages(
+        height: u16,
+        table: *mut u8,
+        table_length: usize,
+        moves: *mut u8,
+        moves_length: usize,
+        tenant: u16,
+        pages: u16,
+    ) -> Outcome;
+    fn reserve_release(
+        height: u16,
+        table: *mut u8,
+        table_length: usize,
+        moves: *mut u8,
+        moves_length: usize,
+        tenant: u16,
+    ) -> Outcome;
+    fn reserve_draw(height: u16, table: *const u8, table_length: usize, map: *mut u8, map_length: usize) -> u16;
+    fn reserve_count(map: *const u8, map_length: usize) -> Counted;
+    fn reserve_read(journal: *const u8, journal_length: usize, offset: usize) -> Read;
+    fn reserve_write_open(height: u8, out: *mut u8, out_length: usize) -> Written;
+    fn reserve_write_grant_level(tenant: u16, level: u8, out: *mut u8, out_length: usize) -> Written;
+    fn reserve_write_grant_pages(tenant: u16, pages: u16, out: *mut u8, out_length: usize) -> Written;
+    fn reserve_write_release(tenant: u16, out: *mut u8, out_length: usize) -> Written;
+}
+
+/// A number that [`Subject::reach`] lets through.
+fn narrow(number: u32) -> u16 {
+    number.try_into().expect("no number beyond the reach is handed over")
+}
+
+impl From<Outcome> for Reply {
+    fn from(outcome: Outcome) -> Reply {
+        Reply {
+            answer: outcome.answer.into(),
+            node: outcome.node.into(),
+            moves: outcome.moves.into(),
+        }
+    }
+}
+
+/// The record that the reader's numbers name.
+fn record(read: &Read) -> Record {
+    let byte = |number: u16| number.try_into().expect("a field of one byte");
+    match read.kind {
+        1 => Record::Open { height: byte(read.who) },
+        2 => Record::GrantLevel {
+            tenant: read.who,
+            level: byte(read.size),
+        },
+        3 => Record::GrantPages {
+            tenant: read.who,
+            pages: read.size,
+        },
+        4 => Record::Release { tenant: read.who },
+        kind => panic!("a record of kind {kind}"),
+    }
+}
+
+/// The planner behind the C door. Slices pass as pointer and length, and nothing is checked or mended on the way.
+pub struct Door;
+
+impl Subject for Door {
+    fn reach(&self) -> Reach {
+        let most = u16::MAX.into();
+        Reach {
+            height: most,
+            tenant: most,
+            level: most,
+            pages: most,
+        }
+    }
+
+    fn open(&mut self, height: u32, table: &mut [u8]) -> u32 {
+        unsafe { reserve_open(narrow(height), table.as_mut_ptr(), table.len()) }.into()
+    }
+
+    fn grant_level(&mut self, height: u32, table: &mut [u8], moves: &mut [u8], tenant: u32, level: u32) -> Reply {
+        let (table, table_length) = (table.as_mut_ptr(), table.len());
+        let (moves, moves_length) = (moves.as_mut_ptr(), moves.len());
+        let (height, tenant, level) = (narrow(height), narrow(tenant), narrow(level));
+        unsafe { reserve_grant_level(height, table, table_length, moves, moves_length, tenant, level) }.into()
+    }
+
+    fn grant_pages(&mut self, height: u32, table: &mut [u8], moves: &mut [u8], tenant: u32, pages: u32) -> Reply {
+        let (table, table_length) = (table.as_mut_ptr(), table.len());
+        let (moves, moves_length) = (moves.as_mut_ptr(), moves.len());
+        let (height, tenant, pages) = (narrow(height), narrow(tenant), narrow(pages));
+        unsafe { reserve_grant_pages(height, table, table_length, moves, moves_length, tenant, pages) }.into()
+    }
+
+    fn release(&mut self, height: u32, table: &mut [u8], moves: &mut [u8], tenant: u32) -> Reply {
+        let (table, table_length) = (table.as_mut_ptr(), table.len());
+        let (moves, moves_length) = (moves.as_mut_ptr(), moves.len());
+        unsafe { reserve_release(narrow(height), table, table_length, moves, moves_length, narrow(tenant)) }.into()
+    }
+
+    fn draw(&mut self, height: u32, table: &[u8], map: &mut [u8]) -> u32 {
+        unsafe { reserve_draw(narrow(height), table.as_ptr(), table.len(), map.as_mut_ptr(), map.len()) }.into()
+    }
+
+    fn count(&mut self, map: &[u8]) -> Count {
+        let counted = unsafe { reserve_count(map.as_ptr(), map.len()) };
+        Count {
+            answer: counted.answer.into(),
+            pages: counted.count.into(),
+        }
+    }
+
+    fn read(&mut self, journal: &[u8], offset: usize) -> Reading {
+        let read = unsafe { reserve_read(journal.as_ptr(), journal.len(), offset) };
+        if read.answer != 0 {
+            return Reading::Refused {
+                number: read.answer.into(),
+                offset: read.offset,
+            };
+        }
+        if read.kind == 0 {
+            return Reading::End;
+        }
+        Reading::Record {
+            record: record(&read),
+            next: read.offset,
+        }
+    }
+
+    fn write(&mut self, record: &Record, lent: &mut [u8]) -> u32 {
+        let (out, length) = (lent.as_mut_ptr(), lent.len());
+        let written = unsafe {
+            match *record {
+                Record::Open { height } => reserve_write_open(height, out, length),
+                Record::GrantLevel { tenant, level } => reserve_write_grant_level(tenant, level, out, length),
+                Record::GrantPages { tenant, pages } => reserve_write_grant_pages(tenant, pages, out, length),
+                Record::Release { tenant } => reserve_write_release(tenant, out, length),
+            }
+        };
+        let bytes = if written.answer == 0 { record.bytes().len() } else { 0 };
+        assert_eq!(written.length, bytes, "the length reported for {record:?}");
+        written.answer.into()
+    }
+
+    fn list(&mut self, journal: &[u8]) -> Vec<u8> {
+        listing::list(journal)
+    }
+}

@@ -1,0 +1,479 @@
+/*
+ * The reserve as a runtime uses it: this program includes nothing of the planner's but its header and links nothing but its
+ * archive. Every buffer that is lent stands between guard bytes. The last line is 'N passed, M failed'.
+ */
+#include <stdio.h>
+#include <stdlib.h>
+#include <string.h>
+
+#include "reserve.h"
+
+/* ---- counting */
+
+static int passed, failed;
+
+static void expect(int ok, const char *what, int line) {
+    if (ok) {
+        passed++;
+    } else {
+        failed++;
+        printf("door.c:%d: %s\n", line, what);
+    }
+}
+
+#define EXPECT(condition) expect((condition) != 0, #condition, __LINE__)
+
+/* ---- lent bytes between guards; the byte after the last guard is the sanitizer's */
+
+enum { GUARD = 64, GUARD_BYTE = 0xA5 };
+
+struct lent {
+    uint8_t *whole;
+    uint8_t *bytes;
+    size_t length;
+};
+
+static struct lent lend(size_t length, int fill) {
+    struct lent lent;
+    lent.whole = (uint8_t *)malloc(length + 2 * GUARD);
+    if (lent.whole == NULL) {
+        exit(2);
+    }
+    memset(lent.whole, GUARD_BYTE, length + 2 * GUARD);
+    lent.bytes = lent.whole + GUARD;
+    lent.length = length;
+    memset(lent.bytes, fill, length);
+    return lent;
+}
+
+static int guarded(struct lent lent) {
+    size_t i;
+    for (i = 0; i < GUARD; i++) {
+        if (lent.whole[i] != GUARD_BYTE || lent.bytes[lent.length + i] != GUARD_BYTE) {
+            return 0;
+        }
+    }
+    return 1;
+}
+
+static int all_are(struct lent lent, int byte) {
+    size_t i;
+    for (i = 0; i < lent.length; i++) {
+        if (lent.bytes[i] != byte) {
+            return 0;
+        }
+    }
+    return 1;
+}
+
+static void give_back(struct lent lent) {
+    EXPECT(guarded(lent));
+    free(lent.whole);
+}
+
+static uint8_t *copy_of(struct lent lent) {
+    uint8_t *copy = (uint8_t *)malloc(lent.length + 1);
+    if (copy == NULL) {
+        exit(2);
+    }
+    memcpy(copy, lent.bytes, lent.length);
+    return copy;
+}
+
+/* ---- numbers of two bytes */
+
+static unsigned word(const uint8_t *bytes) { return bytes[0] + 256u * bytes[1]; }
+
+static unsigned node_of(struct lent table, unsigned tenant) { return word(table.bytes + 2 * tenant); }
+
+static void put_node(struct lent table, unsigned tenant, unsigned node) {
+    table.bytes[2 * tenant] = (uint8_t)(node % 256);
+    table.bytes[2 * tenant + 1] = (uint8_t)(node / 256);
+}
+
+static int is_move(struct lent list, unsigned place, unsigned tenant, unsigned from, unsigned to) {
+    const uint8_t *move = list.bytes + RESERVE_MOVE_BYTES * place;
+    return word(move) == tenant && word(move + 2) == from && word(move + 4) == to;
+}
+
+/* ---- a reserve with its table and list */
+
+struct box {
+    uint16_t height;
+    struct lent table;
+    struct lent list;
+};
+
+static struct box open_box(uint16_t height) {
+    struct box box;
+    box.height = height;
+    box.table = lend(RESERVE_TABLE_BYTES, 0xEE);
+    box.list = lend(RESERVE_LIST_BYTES + 7, 0x77);
+    EXPECT(reserve_open(height, box.table.bytes, box.table.length) == RESERVE_DONE);
+    EXPECT(all_are(box.table, 0));
+    return box;
+}
+
+static void close_box(struct box box) {
+    give_back(box.table);
+    give_back(box.list);
+}
+
+static struct reserve_outcome grant_level(struct box box, uint16_t tenant, uint16_t level) {
+    memset(box.list.bytes, 0x77, box.list.length);
+    return reserve_grant_level(box.height, box.table.bytes, box.table.length, box.list.bytes, box.list.length, tenant, level);
+}
+
+static struct reserve_outcome grant_pages(struct box box, uint16_t tenant, uint16_t pages) {
+    memset(box.list.bytes, 0x77, box.list.length);
+    return reserve_grant_pages(box.height, box.table.bytes, box.table.length, box.list.bytes, box.list.length, tenant, pages);
+}
+
+static struct reserve_outcome release(struct box box, uint16_t tenant) {
+    memset(box.list.bytes, 0x77, box.list.length);
+    return reserve_release(box.height, box.table.bytes, box.table.length, box.list.bytes, box.list.length, tenant);
+}
+
+/* the bytes after so many moves are as they were lent */
+static int list_ends_after(struct box box, unsigned moves) {
+    size_t i;
+    for (i = RESERVE_MOVE_BYTES * moves; i < box.list.length; i++) {
+        if (box.list.bytes[i] != 0x77) {
+            return 0;
+        }
+    }
+    return 1;
+}
+
+static int granted(struct box box, struct reserve_outcome got, unsigned tenant, unsigned node, unsigned moves) {
+    return got.answer == RESERVE_DONE && got.node == node && got.moves == moves && node_of(box.table, tenant) == node &&
+           list_ends_after(box, moves);
+}
+
+static int released(struct box box, struct reserve_outcome got, unsigned tenant, unsigned node, unsigned moves) {
+    return got.answer == RESERVE_DONE && got.node == node && got.moves == moves && node_of(box.table, tenant) == 0 &&
+           list_ends_after(box, moves);
+}
+
+static int refused(struct reserve_outcome got, unsigned answer) {
+    return got.answer == answer && got.node == 0 && got.moves == 0;
+}
+
+/* ---- the calls */
+
+static void opening(void) {
+    struct lent table = lend(RESERVE_TABLE_BYTES, 0x5A);
+    struct lent shorter = lend(RESERVE_TABLE_BYTES - 2, 0x5A);
+    struct lent longer = lend(RESERVE_TABLE_BYTES + 2, 0x5A);
+    struct lent odd = lend(RESERVE_TABLE_BYTES - 1, 0x5A);
+    EXPECT(reserve_open(13, table.bytes, table.length) == RESERVE_HEIGHT);
+    EXPECT(reserve_open(65535, table.bytes, table.length) == RESERVE_HEIGHT);
+    EXPECT(reserve_open(13, shorter.bytes, shorter.length) == RESERVE_HEIGHT);
+    EXPECT(reserve_open(12, shorter.bytes, shorter.length) == RESERVE_TABLE);
+    EXPECT(reserve_open(12, longer.bytes, longer.length) == RESERVE_TABLE);
+    EXPECT(reserve_open(12, odd.bytes, odd.length) == RESERVE_TABLE);
+    EXPECT(reserve_open(12, NULL, 0) == RESERVE_TABLE);
+    EXPECT(reserve_open(13, NULL, 0) == RESERVE_HEIGHT);
+    EXPECT(all_are(table, 0x5A) && all_are(shorter, 0x5A) && all_are(longer, 0x5A) && all_are(odd, 0x5A));
+    EXPECT(reserve_open(12, table.bytes, table.length) == RESERVE_DONE);
+    EXPECT(all_are(table, 0));
+    memset(table.bytes, 0x5A, table.length);
+    EXPECT(reserve_open(0, table.bytes, table.length) == RESERVE_DONE);
+    EXPECT(all_are(table, 0));
+    give_back(table);
+    give_back(shorter);
+    give_back(longer);
+    give_back(odd);
+}
+
+/* four pages: two of them move everybody */
+static void four_pages(void) {
+    struct box box = open_box(2);
+    EXPECT(granted(box, grant_level(box, 0, 1), 0, 2, 0));
+    EXPECT(granted(box, grant_level(box, 1, 0), 1, 6, 0));
+    EXPECT(granted(box, grant_level(box, 2, 0), 2, 5, 2));
+    EXPECT(is_move(box.list, 0, 1, 6, 4));
+    EXPECT(is_move(box.list, 1, 0, 2, 3));
+    EXPECT(node_of(box.table, 0) == 3 && node_of(box.table, 1) == 4);
+    EXPECT(refused(release(box, 7), RESERVE_HOLDS_NONE));
+    EXPECT(refused(grant_pages(box, 3, 1), RESERVE_NO_ROOM));
+    EXPECT(refused(grant_level(box, 1, 0), RESERVE_HOLDS));
+    EXPECT(list_ends_after(box, 0));
+    EXPECT(released(box, release(box, 1), 1, 4, 2));
+    close_box(box);
+}
+
+/* height 5: a grant that moves three and a release that moves four */
+static void most_moves(void) {
+    struct box box = open_box(5);
+    EXPECT(granted(box, grant_level(box, 10, 0), 10, 32, 0));
+    EXPECT(grant_level(box, 11, 1).answer == RESERVE_DONE);
+    EXPECT(grant_level(box, 12, 2).answer == RESERVE_DONE);
+    EXPECT(grant_level(box, 13, 2).answer == RESERVE_DONE);
+    EXPECT(grant_level(box, 4095, 3).answer == RESERVE_DONE);
+    EXPECT(node_of(box.table, 10) == 34 && node_of(box.table, 11) == 16);
+    EXPECT(node_of(box.table, 4095) == 5);
+    EXPECT(node_of(box.table, 12) + node_of(box.table, 13) == 9 + 12);
+    {
+        unsigned on_12 = node_of(box.table, 12) == 12 ? 12 : 13;
+        EXPECT(granted(box, grant_level(box, 14, 1), 14, 17, 3));
+        EXPECT(is_move(box.list, 0, 10, 34, 44));
+        EXPECT(is_move(box.list, 1, on_12, 12, 10));
+        EXPECT(is_move(box.list, 2, 4095, 5, 6));
+        EXPECT(released(box, release(box, 11), 11, 16, 4));
+        EXPECT(is_move(box.list, 0, 10, 44, 34));
+        EXPECT(is_move(box.list, 1, 14, 17, 16));
+        EXPECT(is_move(box.list, 2, on_12, 10, 12));
+        EXPECT(is_move(box.list, 3, 4095, 6, 5));
+    }
+    close_box(box);
+}
+
+/* every refusal of an argument, with all later ones present too: the first is answered, and no byte changes */
+static void arguments(void) {
+    struct box box = open_box(3);
+    struct lent longer = lend(RESERVE_TABLE_BYTES + 2, 0x11);
+    struct lent shorter = lend(RESERVE_TABLE_BYTES - 2, 0x11);
+    struct lent three = lend(RESERVE_LIST_BYTES - 1, 0x22);
+    uint8_t *table, *copy;
+    EXPECT(granted(box, grant_pages(box, 5, 2), 5, 4, 0));
+    table = copy_of(box.table);
+    EXPECT(refused(reserve_grant_level(13, longer.bytes, longer.length, three.bytes, three.length, 4096, 14), RESERVE_HEIGHT));
+    EXPECT(refused(reserve_grant_level(12, longer.bytes, longer.length, three.bytes, three.length, 4096, 14), RESERVE_TABLE));
+    EXPECT(refused(reserve_grant_pages(12, shorter.bytes, shorter.length, three.bytes, three.length, 4096, 9), RESERVE_TABLE));
+    EXPECT(refused(reserve_release(12, shorter.bytes, shorter.length, three.bytes, three.length, 4096), RESERVE_TABLE));
+    EXPECT(refused(reserve_release(12, NULL, 0, NULL, 0, 4096), RESERVE_TABLE));
+    EXPECT(refused(reserve_release(3, box.table.bytes, box.table.length, NULL, 0, 4096), RESERVE_LIST));
+    EXPECT(refused(reserve_grant_level(3, box.table.bytes, box.table.length, three.bytes, three.length, 4096, 4), RESERVE_LIST));
+    EXPECT(refused(reserve_grant_pages(3, box.table.bytes, box.table.length, three.bytes, three.length, 4096, 9), RESERVE_LIST));
+    EXPECT(refused(reserve_release(3, box.table.bytes, box.table.length, three.bytes, three.length, 4096), RESERVE_LIST));
+    EXPECT(refused(grant_level(box, 4096, 4), RESERVE_TENANT));
+    EXPECT(refused(grant_pages(box, 65535, 9), RESERVE_TENANT));
+    EXPECT(refused(release(box, 4096), RESERVE_TENANT));
+    EXPECT(refused(grant_level(box, 5, 4), RESERVE_LEVEL));
+    EXPECT(refused(grant_level(box, 5, 65535), RESERVE_LEVEL));
+    EXPECT(refused(grant_pages(box, 5, 9), RESERVE_PAGES));
+    EXPECT(refused(grant_pages(box, 5, 65535), RESERVE_PAGES));
+    EXPECT(refused(grant_level(box, 5, 3), RESERVE_HOLDS));
+    EXPECT(refused(grant_level(box, 6, 3), RESERVE_NO_ROOM));
+    EXPECT(refused(grant_pages(box, 6, 8), RESERVE_NO_ROOM));
+    EXPECT(refused(release(box, 6), RESERVE_HOLDS_NONE));
+    EXPECT(list_ends_after(box, 0));
+    copy = copy_of(box.table);
+    EXPECT(memcmp(table, copy, box.table.length) == 0);
+    EXPECT(all_are(longer, 0x11) && all_are(shorter, 0x11) && all_are(three, 0x22));
+    free(table);
+    free(copy);
+    give_back(longer);
+    give_back(shorter);
+    give_back(three);
+    close_box(box);
+}
+
+/* a list of exactly 24 bytes is enough; sizes at their edges */
+static void edges(void) {
+    struct lent table = lend(RESERVE_TABLE_BYTES, 1);
+    struct lent list = lend(RESERVE_LIST_BYTES, 0x33);
+    struct reserve_outcome got;
+    EXPECT(reserve_open(12, table.bytes, table.length) == RESERVE_DONE);
+    got = reserve_grant_pages(12, table.bytes, table.length, list.bytes, list.length, 4095, 4096);
+    EXPECT(got.answer == RESERVE_DONE && got.node == 1 && got.moves == 0);
+    EXPECT(refused(reserve_grant_pages(12, table.bytes, table.length, list.bytes, list.length, 0, 4097), RESERVE_PAGES));
+    EXPECT(refused(reserve_grant_pages(12, table.bytes, table.length, list.bytes, list.length, 0, 0), RESERVE_NO_ROOM));
+    got = reserve_release(12, table.bytes, table.length, list.bytes, list.length, 4095);
+    EXPECT(got.answer == RESERVE_DONE && got.node == 1 && got.moves == 0);
+    EXPECT(all_are(table, 0));
+    got = reserve_grant_pages(12, table.bytes, table.length, list.bytes, list.length, 0, 0);
+    EXPECT(got.answer == RESERVE_DONE && got.node == 4096 && node_of(table, 0) == 4096);
+    got = reserve_grant_level(12, table.bytes, table.length, list.bytes, list.length, 1, 11);
+    EXPECT(got.answer == RESERVE_DONE && got.node == 2 && got.moves == 1 && is_move(list, 0, 0, 4096, 6144));
+    EXPECT(reserve_open(0, table.bytes, table.length) == RESERVE_DONE);
+    got = reserve_grant_level(0, table.bytes, table.length, list.bytes, list.length, 2, 0);
+    EXPECT(got.answer == RESERVE_DONE && got.node == 1);
+    EXPECT(refused(reserve_grant_level(0, table.bytes, table.length, list.bytes, list.length, 3, 1), RESERVE_LEVEL));
+    give_back(table);
+    give_back(list);
+}
+
+/* the low byte first, at a node above 255 */
+static void byte_order(void) {
+    struct box box = open_box(12);
+    EXPECT(granted(box, grant_level(box, 258, 3), 258, 512, 0));
+    EXPECT(box.table.bytes[516] == 0 && box.table.bytes[517] == 2);
+    EXPECT(granted(box, grant_level(box, 1, 0), 1, 4104, 0));
+    EXPECT(box.table.bytes[2] == 0x08 && box.table.bytes[3] == 0x10);
+    close_box(box);
+}
+
+/* tables that no call leaves */
+static void not_in_order(void) {
+    static const unsigned nodes[][2] = {{8, 8}, {4, 8}, {16, 0}, {9, 0}, {65535, 0}, {8, 10}, {5, 12}};
+    size_t i;
+    for (i = 0; i < sizeof nodes / sizeof nodes[0]; i++) {
+        struct box box = open_box(3);
+        uint8_t *copy;
+        put_node(box.table, 100, nodes[i][0]);
+        put_node(box.table, 4095, nodes[i][1]);
+        copy = copy_of(box.table);
+        EXPECT(refused(grant_level(box, 100, 0), RESERVE_NOT_IN_ORDER));
+        EXPECT(refused(grant_pages(box, 5, 8), RESERVE_NOT_IN_ORDER));
+        EXPECT(refused(release(box, 5), RESERVE_NOT_IN_ORDER));
+        EXPECT(memcmp(copy, box.table.bytes, box.table.length) == 0 && list_ends_after(box, 0));
+        free(copy);
+        close_box(box);
+    }
+}
+
+/* all tenants at once, and none again */
+static void everybody(void) {
+    struct box box = open_box(12);
+    unsigned t;
+    int right = 1;
+    for (t = 0; t < RESERVE_TENANTS; t++) {
+        right = right && granted(box, grant_pages(box, (uint16_t)t, 1), t, 4096 + t, 0);
+    }
+    EXPECT(right);
+    EXPECT(refused(grant_level(box, 0, 0), RESERVE_HOLDS));
+    right = 1;
+    for (t = RESERVE_TENANTS; t > 0; t--) {
+        right = right && released(box, release(box, (uint16_t)(t - 1)), t - 1, 4096 + t - 1, 0);
+    }
+    EXPECT(right);
+    EXPECT(all_are(box.table, 0));
+    close_box(box);
+}
+
+/* ---- the page map */
+
+static int counts(struct lent map, unsigned answer, unsigned count) {
+    struct reserve_counted got = reserve_count(map.bytes, map.length);
+    return got.answer == answer && got.count == count;
+}
+
+static void page_map(void) {
+    struct box box = open_box(3);
+    struct lent map = lend(RESERVE_MAP_BYTES + 3, 0xFF);
+    struct lent shorter = lend(RESERVE_MAP_BYTES - 1, 0xFF);
+    size_t i;
+    int clear = 1;
+    EXPECT(grant_level(box, 0, 1).answer == RESERVE_DONE);
+    EXPECT(grant_level(box, 1, 0).answer == RESERVE_DONE);
+    EXPECT(counts(map, RESERVE_DONE, 4096));
+    EXPECT(reserve_draw(3, box.table.bytes, box.table.length, map.bytes, map.length) == RESERVE_DONE);
+    EXPECT(map.bytes[0] == 0x07);
+    for (i = 1; i < RESERVE_MAP_BYTES; i++) {
+        clear = clear && map.bytes[i] == 0;
+    }
+    EXPECT(clear);
+    for (; i < map.length; i++) {
+        EXPECT(map.bytes[i] == 0xFF);
+    }
+    EXPECT(counts(map, RESERVE_DONE, 3));
+    memset(map.bytes, 0x6C, map.length);
+    EXPECT(reserve_draw(13, box.table.bytes, box.table.length, shorter.bytes, shorter.length) == RESERVE_HEIGHT);
+    EXPECT(reserve_draw(3, box.table.bytes, box.table.length - 1, shorter.bytes, shorter.length) == RESERVE_TABLE);
+    EXPECT(reserve_draw(3, NULL, 0, NULL, 0) == RESERVE_TABLE);
+    EXPECT(reserve_draw(3, box.table.bytes, box.table.length, shorter.bytes, shorter.length) == RESERVE_TOO_SHORT);
+    EXPECT(reserve_draw(3, box.table.bytes, box.table.length, NULL, 0) == RESERVE_TOO_SHORT);
+    put_node(box.table, 9, 4);
+    EXPECT(reserve_draw(3, box.table.bytes, box.table.length, shorter.bytes, shorter.length) == RESERVE_NOT_IN_ORDER);
+    EXPECT(reserve_draw(3, box.table.bytes, box.table.length, map.bytes, map.length) == RESERVE_NOT_IN_ORDER);
+    EXPECT(all_are(map, 0x6C) && all_are(shorter, 0xFF));
+    EXPECT(counts(shorter, RESERVE_TOO_SHORT, 0));
+    EXPECT(reserve_count(NULL, 0).answer == RESERVE_TOO_SHORT);
+    close_box(box);
+    give_back(map);
+    give_back(shorter);
+    box = open_box(12);
+    map = lend(RESERVE_MAP_BYTES, 0);
+    EXPECT(grant_pages(box, 3, 2048).answer == RESERVE_DONE);
+    EXPECT(reserve_draw(12, box.table.bytes, box.table.length, map.bytes, map.length) == RESERVE_DONE);
+    EXPECT(map.bytes[0] == 0xFF && map.bytes[255] == 0xFF && map.bytes[256] == 0 && map.bytes[511] == 0);
+    EXPECT(counts(map, RESERVE_DONE, 2048));
+    close_box(box);
+    give_back(map);
+}
+
+/* ---- the journal */
+
+static int reads(const uint8_t *journal, size_t length, size_t at, unsigned kind, unsigned who, unsigned size, size_t next) {
+    struct reserve_reading got = reserve_read(journal, length, at);
+    return got.answer == RESERVE_DONE && got.kind == kind && got.who == who && got.size == size && got.offset == next;
+}
+
+static int read_refused(const uint8_t *journal, size_t length, size_t at, unsigned answer, size_t offset) {
+    struct reserve_reading got = reserve_read(journal, length, at);
+    return got.answer == answer && got.kind == RESERVE_KIND_NONE && got.who == 0 && got.size == 0 && got.offset == offset;
+}
+
+static void reading(void) {
+    static const uint8_t sample[] = {1, 2, 2, 0, 0, 1, 2, 1, 0, 0, 2, 2, 0, 0, 4, 7, 0, 3, 3, 0, 1, 0};
+    struct lent journal = lend(sizeof sample, 0);
+    const size_t length = sizeof sample;
+    memcpy(journal.bytes, sample, length);
+    EXPECT(reads(journal.bytes, length, 0, RESERVE_KIND_OPEN, 2, 0, 2));
+    EXPECT(reads(journal.bytes, length, 2, RESERVE_KIND_GRANT_LEVEL, 0, 1, 6));
+    EXPECT(reads(journal.bytes, length, 14, RESERVE_KIND_RELEASE, 7, 0, 17));
+    EXPECT(reads(journal.bytes, length, 17, RESERVE_KIND_GRANT_PAGES, 3, 1, 22));
+    EXPECT(reads(journal.bytes, length, 22, RESERVE_KIND_NONE, 0, 0, 22));
+    EXPECT(reads(journal.bytes, length, (size_t)-1, RESERVE_KIND_NONE, 0, 0, (size_t)-1));
+    EXPECT(read_refused(journal.bytes, length, 3, RESERVE_UNKNOWN_KIND, 3));
+    EXPECT(read_refused(journal.bytes, 21, 17, RESERVE_CUT_OFF, 17));
+    EXPECT(read_refused(journal.bytes, length, 5, RESERVE_OPEN_AGAIN, 5));
+    EXPECT(read_refused(journal.bytes + 2, length - 2, 4, RESERVE_NO_OPEN, 0));
+    EXPECT(read_refused(NULL, 0, 0, RESERVE_NO_OPEN, 0));
+    EXPECT(memcmp(journal.bytes, sample, length) == 0);
+    give_back(journal);
+    journal = lend(RESERVE_JOURNAL_BYTES, 1);
+    EXPECT(reads(journal.bytes, journal.length, 0, RESERVE_KIND_OPEN, 1, 0, 2));
+    give_back(journal);
+    journal = lend(RESERVE_JOURNAL_BYTES + 1, 0);
+    EXPECT(read_refused(journal.bytes, journal.length, 9, RESERVE_TOO_LONG, 0));
+    give_back(journal);
+}
+
+static int wrote(struct reserve_written got, size_t length) { return got.answer == RESERVE_DONE && got.length == length; }
+
+static int no_room(struct reserve_written got) { return got.answer == RESERVE_TOO_SHORT && got.length == 0; }
+
+static void writing(void) {
+    static const uint8_t records[] = {1, 255, 2, 2, 1, 200, 3, 255, 15, 0, 16, 4, 254, 255, 0x44};
+    struct lent out = lend(sizeof records, 0x44);
+    size_t n;
+    EXPECT(wrote(reserve_write_open(255, out.bytes, out.length), 2));
+    EXPECT(wrote(reserve_write_grant_level(258, 200, out.bytes + 2, out.length - 2), 4));
+    EXPECT(wrote(reserve_write_grant_pages(4095, 4096, out.bytes + 6, out.length - 6), 5));
+    EXPECT(wrote(reserve_write_release(65534, out.bytes + 11, out.length - 11), 3));
+    EXPECT(memcmp(out.bytes, records, sizeof records) == 0);
+    EXPECT(reads(out.bytes, 14, 2, RESERVE_KIND_GRANT_LEVEL, 258, 200, 6));
+    EXPECT(reads(out.bytes, 14, 6, RESERVE_KIND_GRANT_PAGES, 4095, 4096, 11));
+    EXPECT(reads(out.bytes, 14, 11, RESERVE_KIND_RELEASE, 65534, 0, 14));
+    give_back(out);
+    for (n = 0; n <= RESERVE_RECORD_BYTES; n++) {
+        out = lend(n, 0x44);
+        EXPECT(n < 2 ? no_room(reserve_write_open(3, out.bytes, n)) : 1);
+        EXPECT(n < 4 ? no_room(reserve_write_grant_level(3, 1, out.bytes, n)) : 1);
+        EXPECT(n < 5 ? no_room(reserve_write_grant_pages(3, 1, out.bytes, n)) : 1);
+        EXPECT(n < 3 ? no_room(reserve_write_release(3, out.bytes, n)) : 1);
+        EXPECT(all_are(out, 0x44));
+        EXPECT(n < 3 || wrote(reserve_write_release(3, out.bytes, n), 3));
+        give_back(out);
+    }
+    EXPECT(no_room(reserve_write_open(3, NULL, 0)));
+}
+
+int main(void) {
+    opening();
+    four_pages();
+    most_moves();
+    arguments();
+    edges();
+    byte_order();
+    not_in_order();
+    everybody();
+    page_map();
+    reading();
+    writing();
+    printf("%d passed, %d failed\n", passed, failed);
+    return failed == 0 ? 0 : 1;
+}
