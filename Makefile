@@ -1,9 +1,9 @@
-# `make` builds and runs the main job; `make test` is the gate.
+# `make` builds the program that lists a journal and runs it on an example; `make test` is the gate.
 .PHONY: run test
 
 run:
-	@mkdir -p target && rt check layouts >target/build.log 2>&1 || { cat target/build.log; exit 1; }
-	@target/bin/layouts
+	@mkdir -p target && rt check listing >target/build.log 2>&1 || { cat target/build.log; exit 1; }
+	@target/bin/listing <examples/most-moves.journal
 
 test:
 	@bash .ci/run
