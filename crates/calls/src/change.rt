@@ -27,7 +27,8 @@ fn has_room(height: u16, counts: Counts, level: u16) -> bool
 // Grants the tenant a block of the level, unless the table refuses it.
 pub fn grant(height: u16, table: &mut [u16], tenant: u16, level: u16) -> Called
     requires { ⌜ Ready height (now table) tenant level ⌝ }
-    ensures { λ r. ⌜ valueOf r (now (table .exit)) ≡ grantOn height (now (table .entry)) tenant level ⌝ }
+    ensures value { λ r. ⌜ valueOf r (now (table .exit)) ≡ grantOn height (now (table .entry)) tenant level ⌝ }
+    ensures few { λ r. ⌜ r .plan .n ≤ 4 ⌝ }
 {
     let mut owners = [0u16; 8192];
     let found = survey::survey(height, table, &mut owners);
@@ -56,7 +57,8 @@ pub fn grant(height: u16, table: &mut [u16], tenant: u16, level: u16) -> Called
 // Releases the tenant's block, unless the table refuses it.
 pub fn give_up(height: u16, table: &mut [u16], tenant: u16) -> Called
     requires { ⌜ Ready height (now table) tenant 0 ⌝ }
-    ensures { λ r. ⌜ valueOf r (now (table .exit)) ≡ releaseOn height (now (table .entry)) tenant ⌝ }
+    ensures value { λ r. ⌜ valueOf r (now (table .exit)) ≡ releaseOn height (now (table .entry)) tenant ⌝ }
+    ensures few { λ r. ⌜ r .plan .n ≤ 4 ⌝ }
 {
     let mut owners = [0u16; 8192];
     let found = survey::survey(height, table, &mut owners);

@@ -1,7 +1,7 @@
 // The calls of the reserve over a lent table: opening, grants by level and by pages, releases.
 ghost use mathlib.Core.Path.{_≡_};
 ghost use mathlib.Core.List.{List};
-ghost use Prim.Native.Nat.{ℕ};
+ghost use Prim.Native.Nat.{ℕ, _≤_};
 ghost use Rattle.calls.specs.Step.{open-reserve, refused as refusal, step};
 ghost use Rattle.calls.specs.Call.{grant-level, grant-pages, release as release-by};
 ghost use Rattle.calls.specs.Value.{answered, valueOf};
@@ -27,7 +27,8 @@ pub struct Called {
 
 // A refusal has no moves.
 fn refused(number: u16) -> Called
-    ensures { λ r. ⌜ ((T : List ℕ) → valueOf r T ≡ refusal number T) ⌝ }
+    ensures value { λ r. ⌜ ((T : List ℕ) → valueOf r T ≡ refusal number T) ⌝ }
+    ensures few { λ r. ⌜ r .plan .n ≤ 4 ⌝ }
 {
     Called {
         answer: Answer::Refused { number },
@@ -55,7 +56,8 @@ pub fn grant_level(
     tenant: u16,
     level: u16,
 ) -> Called
-    ensures { λ r. ⌜ valueOf r (now (table .exit)) ≡ step height (now (table .entry)) (grant-level tenant level entries) ⌝ }
+    ensures value { λ r. ⌜ valueOf r (now (table .exit)) ≡ step height (now (table .entry)) (grant-level tenant level entries) ⌝ }
+    ensures few { λ r. ⌜ r .plan .n ≤ 4 ⌝ }
 {
     let number = request::refusal(height, table.len(), entries, tenant);
     if number != 0 {
@@ -75,7 +77,8 @@ pub fn grant_pages(
     tenant: u16,
     pages: u16,
 ) -> Called
-    ensures { λ r. ⌜ valueOf r (now (table .exit)) ≡ step height (now (table .entry)) (grant-pages tenant pages entries) ⌝ }
+    ensures value { λ r. ⌜ valueOf r (now (table .exit)) ≡ step height (now (table .entry)) (grant-pages tenant pages entries) ⌝ }
+    ensures few { λ r. ⌜ r .plan .n ≤ 4 ⌝ }
 {
     let number = request::refusal(height, table.len(), entries, tenant);
     if number != 0 {
@@ -89,7 +92,8 @@ pub fn grant_pages(
 
 // Releases a tenant's block.
 pub fn release(height: u16, table: &mut [u16], entries: usize, tenant: u16) -> Called
-    ensures { λ r. ⌜ valueOf r (now (table .exit)) ≡ step height (now (table .entry)) (release-by tenant entries) ⌝ }
+    ensures value { λ r. ⌜ valueOf r (now (table .exit)) ≡ step height (now (table .entry)) (release-by tenant entries) ⌝ }
+    ensures few { λ r. ⌜ r .plan .n ≤ 4 ⌝ }
 {
     let number = request::refusal(height, table.len(), entries, tenant);
     if number != 0 {

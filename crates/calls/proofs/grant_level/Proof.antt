@@ -17,7 +17,7 @@ returns c =
     let a = start .args in
     let T = a .table .now in
     let asked = c .before .before .refusal .ensures in
-    c .refused .ensures T ∙ level-call-refused (a .height) T (a .tenant) (a .entries) (c .before .before .refusal .result) asked (a .level) (c .before .if1 .taken)
+    (c .refused .ensures .0 T ∙ level-call-refused (a .height) T (a .tenant) (a .entries) (c .before .before .refusal .result) asked (a .level) (c .before .if1 .taken), c .refused .ensures .1)
 
 refused-requires-2 : tie.Need-refused-requires-2
 refused-requires-2 c κs = search needs
@@ -28,7 +28,7 @@ returns-2 c =
     let a = start .args in
     let T = a .table .now in
     let asked = c .before .before .before .refusal .ensures in
-    c .refused2 .ensures T ∙ level-too-high (a .height) T (a .tenant) (a .entries) (c .before .before .before .refusal .result) asked (c .before .before .if1 .left) (a .level) (c .before .if2 .taken)
+    (c .refused2 .ensures .0 T ∙ level-too-high (a .height) T (a .tenant) (a .entries) (c .before .before .before .refusal .result) asked (c .before .before .if1 .left) (a .level) (c .before .if2 .taken), c .refused2 .ensures .1)
 
 grant-requires : tie.Need-grant-requires
 grant-requires c κs =
@@ -47,7 +47,7 @@ returns-3 c =
     let a = start .args in
     let T = a .table .now in
     let asked = c .before .before .before .before .before .before .refusal .ensures in
-    c .before .before .grant .ensures ∙ level-call (a .height) T (a .tenant) (a .entries) (c .before .before .before .before .before .before .refusal .result) asked (c .before .before .before .before .before .if1 .left) (a .level) (c .before .before .before .before .if2 .left)
+    (c .before .before .grant .ensures .0 ∙ level-call (a .height) T (a .tenant) (a .entries) (c .before .before .before .before .before .before .refusal .result) asked (c .before .before .before .before .before .if1 .left) (a .level) (c .before .before .before .before .if2 .left), c .before .before .grant .ensures .1)
 
 pub grant-level-spec : {M : Type 1} → statement M
 grant-level-spec =

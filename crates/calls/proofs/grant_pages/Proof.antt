@@ -21,7 +21,7 @@ returns c =
     let a = start .args in
     let T = a .table .now in
     let asked = c .before .before .refusal .ensures in
-    c .refused .ensures T ∙ pages-call-refused (a .height) T (a .tenant) (a .entries) (c .before .before .refusal .result) asked (a .pages) (c .before .if1 .taken)
+    (c .refused .ensures .0 T ∙ pages-call-refused (a .height) T (a .tenant) (a .entries) (c .before .before .refusal .result) asked (a .pages) (c .before .if1 .taken), c .refused .ensures .1)
 
 power-requires : tie.Need-power-requires
 power-requires c κs =
@@ -39,9 +39,11 @@ returns-2 c =
     let start = c .before .before .before .before .before .before in
     let a = start .args in
     let T = a .table .now in
-    let asked = c .before .before .before .before .refusal .ensures in
-    c .refused2 .ensures T
-    ∙ too-many-pages (a .height) T (a .tenant) (a .entries) (c .before .before .before .before .refusal .result) asked (c .before .before .before .if1 .left) (a .pages) (rw (c .before .before .power .ensures) at (c .before .if2 .taken))
+    let asked = c .before .before .before .before .refusal .ensures in (
+      c .refused2 .ensures .0 T
+          ∙ too-many-pages (a .height) T (a .tenant) (a .entries) (c .before .before .before .before .refusal .result) asked (c .before .before .before .if1 .left) (a .pages) (rw (c .before .before .power .ensures) at (c .before .if2 .taken)),
+      c .refused2 .ensures .1,
+    )
 
 level-for-requires : tie.Need-level-for-requires
 level-for-requires c κs = search needs
@@ -64,10 +66,12 @@ returns-3 c =
     let start = c .before .before .before .before .before .before .before .before .before .before in
     let a = start .args in
     let T = a .table .now in
-    let asked = c .before .before .before .before .before .before .before .before .refusal .ensures in
-    c .before .before .grant .ensures
-    ∙ ap (grantOn (a .height) T (a .tenant)) (c .before .before .before .level-for .ensures)
-    ∙ pages-call (a .height) T (a .tenant) (a .entries) (c .before .before .before .before .before .before .before .before .refusal .result) asked (c .before .before .before .before .before .before .before .if1 .left) (a .pages) (rw (c .before .before .before .before .before .before .power .ensures) at (c .before .before .before .before .before .if2 .left))
+    let asked = c .before .before .before .before .before .before .before .before .refusal .ensures in (
+      c .before .before .grant .ensures .0
+          ∙ ap (grantOn (a .height) T (a .tenant)) (c .before .before .before .level-for .ensures)
+          ∙ pages-call (a .height) T (a .tenant) (a .entries) (c .before .before .before .before .before .before .before .before .refusal .result) asked (c .before .before .before .before .before .before .before .if1 .left) (a .pages) (rw (c .before .before .before .before .before .before .power .ensures) at (c .before .before .before .before .before .if2 .left)),
+      c .before .before .grant .ensures .1,
+    )
 
 pub grant-pages-spec : {M : Type 1} → statement M
 grant-pages-spec =

@@ -18,7 +18,7 @@ returns c =
     let a = start .args in
     let T = a .table .now in
     let asked = c .before .before .refusal .ensures in
-    c .refused .ensures T ∙ release-call-refused (a .height) T (a .tenant) (a .entries) (c .before .before .refusal .result) asked (c .before .if1 .taken)
+    (c .refused .ensures .0 T ∙ release-call-refused (a .height) T (a .tenant) (a .entries) (c .before .before .refusal .result) asked (c .before .if1 .taken), c .refused .ensures .1)
 
 give-up-requires : tie.Need-give-up-requires
 give-up-requires c κs =
@@ -37,7 +37,7 @@ returns-2 c =
     let a = start .args in
     let T = a .table .now in
     let asked = c .before .before .before .before .before .refusal .ensures in
-    c .before .before .give-up .ensures ∙ release-call (a .height) T (a .tenant) (a .entries) (c .before .before .before .before .before .refusal .result) asked (c .before .before .before .before .if1 .left)
+    (c .before .before .give-up .ensures .0 ∙ release-call (a .height) T (a .tenant) (a .entries) (c .before .before .before .before .before .refusal .result) asked (c .before .before .before .before .if1 .left), c .before .before .give-up .ensures .1)
 
 pub release-spec : {M : Type 1} → statement M
 release-spec =

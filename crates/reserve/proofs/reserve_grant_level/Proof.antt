@@ -28,7 +28,7 @@ finish-requires : tie.Need-finish-requires
 finish-requires c κs =
     let x = c .before .before .before .before in
     let a = x .before .before .before .before .before .before .before .args in
-    call-finishes (a .height) (grant-level (a .tenant) (a .level) (length (a .moves .now) / 6)) (x .grant-level .result) (x .before .before .decode .ensures) (kept x) (x .grant-level .ensures) (a .moves .now) refl
+    call-finishes (a .height) (grant-level (a .tenant) (a .level) (length (a .moves .now) / 6)) (x .grant-level .result) (x .before .before .decode .ensures) (kept x) (x .grant-level .ensures .0) (a .moves .now) refl
 
 same-length : tie.Need-same-length
 same-length c = search needs
@@ -40,7 +40,7 @@ returns : tie.Need-returns
 returns c =
     let x = c .before .before .before .before .before .before .before .before .before in
     let a = x .before .before .before .before .before .before .before .args in
-    call-reported (a .height) (grant-level (a .tenant) (a .level) (length (a .moves .now) / 6)) (x .grant-level .result) (x .before .before .decode .ensures) (kept x) (x .grant-level .ensures) (c .before .before .before .before .finish .ensures)
+    call-reported (a .height) (grant-level (a .tenant) (a .level) (length (a .moves .now) / 6)) (x .grant-level .result) (x .before .before .decode .ensures) (kept x) (x .grant-level .ensures .0) (c .before .before .before .before .finish .ensures)
 
 pub reserve-grant-level-spec : {M : Type 1} → statement M
 reserve-grant-level-spec =

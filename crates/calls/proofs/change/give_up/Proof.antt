@@ -33,7 +33,7 @@ returns c =
     let start = c .before .before .before .before .before .before .before in
     let T = start .args .table .now in
     let found = c .before .before .before .survey .ensures in
-    c .refused .ensures T ∙ release-disordered (start .args .height) T (start .args .tenant) (sym (found .in-order) ∙ not-true _ (c .before .if1 .taken))
+    (c .refused .ensures .0 T ∙ release-disordered (start .args .height) T (start .args .tenant) (sym (found .in-order) ∙ not-true _ (c .before .if1 .taken)), c .refused .ensures .1)
 
 mul-node : tie.Need-mul-node
 mul-node c = search needs
@@ -51,9 +51,11 @@ returns-2 : tie.Need-returns-2
 returns-2 c =
     let start = c .before .before .before .before .before .before .before .before .before in
     let T = start .args .table .now in
-    let found = c .before .before .before .before .before .survey .ensures in
-    c .refused2 .ensures T
-    ∙ release-by-nobody (start .args .height) T (start .args .tenant) (sym (found .in-order) ∙ not-false _ (c .before .before .before .if1 .left)) (c .before .if2 .taken)
+    let found = c .before .before .before .before .before .survey .ensures in (
+      c .refused2 .ensures .0 T
+          ∙ release-by-nobody (start .args .height) T (start .args .tenant) (sym (found .in-order) ∙ not-false _ (c .before .before .before .if1 .left)) (c .before .if2 .taken),
+      c .refused2 .ensures .1,
+    )
 
 plan-release-requires : tie.Need-plan-release-requires
 plan-release-requires c κs =
@@ -106,10 +108,12 @@ returns-3 c =
     let holds : 0 < nodeAt T t = above-zero _ (c .before .before .before .before .before .before .before .before .if2 .left) in
     let r = c .before .before .before .before .before .plan-release .result in
     let planned = rw (found .counts seen, found .owners seen) at (c .before .before .before .before .before .plan-release .ensures) in
-    let carried = c .before .before .carry-out .ensures in
-    ap (λ (l : List ℕ). record { answer = 0; node = nodeAt T t; moves = movesIn (r .plan); table = l }) carried
-    ∙ release-value h T (start .pre .height) (start .pre .entries) order t (start .pre .tenant) holds r planned
-    ∙ release-by-holder h T t (sym (found .in-order) ∙ seen) (c .before .before .before .before .before .before .before .before .if2 .left)
+    let carried = c .before .before .carry-out .ensures in (
+      ap (λ (l : List ℕ). record { answer = 0; node = nodeAt T t; moves = movesIn (r .plan); table = l }) carried
+          ∙ release-value h T (start .pre .height) (start .pre .entries) order t (start .pre .tenant) holds r planned
+          ∙ release-by-holder h T t (sym (found .in-order) ∙ seen) (c .before .before .before .before .before .before .before .before .if2 .left),
+      rw (planned .count) (release-plannable h T (start .pre .height) (start .pre .entries) order t (start .pre .tenant) holds .plannable .few),
+    )
 
 pub give-up-spec : {M : Type 1} → statement M
 give-up-spec =

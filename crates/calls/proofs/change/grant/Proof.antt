@@ -39,7 +39,7 @@ returns c =
     let start = c .before .before .before .before .before .before .before in
     let T = start .args .table .now in
     let found = c .before .before .before .survey .ensures in
-    c .refused .ensures T ∙ grant-disordered (start .args .height) T (start .args .tenant) (start .args .level) (sym (found .in-order) ∙ not-true _ (c .before .if1 .taken))
+    (c .refused .ensures .0 T ∙ grant-disordered (start .args .height) T (start .args .tenant) (start .args .level) (sym (found .in-order) ∙ not-true _ (c .before .if1 .taken)), c .refused .ensures .1)
 
 mul-if2 : tie.Need-mul-if2
 mul-if2 c = search needs
@@ -60,7 +60,7 @@ returns-2 c =
     let found = c .before .before .before .before .before .survey .ensures in
     let order : in-order? (start .args .height) T ≡ true = sym (found .in-order) ∙ not-false _ (c .before .before .before .if1 .left) in
     let holds : 0 < nodeAt T (start .args .tenant) = above-zero _ (c .before .if2 .taken) in
-    c .refused2 .ensures T ∙ grant-to-holder (start .args .height) T (start .args .tenant) (start .args .level) order holds
+    (c .refused2 .ensures .0 T ∙ grant-to-holder (start .args .height) T (start .args .tenant) (start .args .level) order holds, c .refused2 .ensures .1)
 
 has-room-requires : tie.Need-has-room-requires
 has-room-requires c κs =
@@ -86,9 +86,11 @@ returns-3 c =
     let seen = not-false _ (c .before .before .before .before .before .before .if1 .left) in
     let order : in-order? h T ≡ true = sym (found .in-order) ∙ seen in
     let full : leb (pages (countsOf h T) + 2 ^ start .args .level) (2 ^ h) ≡ false =
-    rw (found .counts seen) at (sym (c .before .before .has-room .ensures) ∙ not-true _ (c .before .if3 .taken)) in
-    c .refused3 .ensures T
-    ∙ grant-without-room h T (start .args .tenant) (start .args .level) order (c .before .before .before .before .if2 .left) (leb-false _ _ full)
+    rw (found .counts seen) at (sym (c .before .before .has-room .ensures) ∙ not-true _ (c .before .if3 .taken)) in (
+      c .refused3 .ensures .0 T
+          ∙ grant-without-room h T (start .args .tenant) (start .args .level) order (c .before .before .before .before .if2 .left) (leb-false _ _ full),
+      c .refused3 .ensures .1,
+    )
 
 plan-grant-requires : tie.Need-plan-grant-requires
 plan-grant-requires c κs =
@@ -142,10 +144,12 @@ returns-4 c =
     let carried = c .before .before .carry-out .ensures in
     let t = start .args .tenant in
     let l = start .args .level in
-    let nothing = c .before .before .before .before .before .before .before .before .before .before .if2 .left in
-    ap (λ (l′ : List ℕ). record { answer = 0; node = r .node; moves = movesIn (r .plan); table = set l′ t (r .node) }) carried
-    ∙ grant-value h T (start .pre .height) (start .pre .entries) order t l (start .pre .tenant) nothing (start .pre .in-height) (leb-true _ _ room) r planned
-    ∙ grant-with-room h T t l (sym (found .in-order) ∙ seen) nothing (leb-true _ _ room)
+    let nothing = c .before .before .before .before .before .before .before .before .before .before .if2 .left in (
+      ap (λ (l′ : List ℕ). record { answer = 0; node = r .node; moves = movesIn (r .plan); table = set l′ t (r .node) }) carried
+          ∙ grant-value h T (start .pre .height) (start .pre .entries) order t l (start .pre .tenant) nothing (start .pre .in-height) (leb-true _ _ room) r planned
+          ∙ grant-with-room h T t l (sym (found .in-order) ∙ seen) nothing (leb-true _ _ room),
+      rw (planned .count) (grant-plannable h T (start .pre .height) (start .pre .entries) order t l (start .pre .tenant) nothing (start .pre .in-height) (leb-true _ _ room) .plannable .few),
+    )
 
 pub grant-spec : {M : Type 1} → statement M
 grant-spec =
