@@ -1,6 +1,6 @@
 -- The rows of a level and the nodes of that level: the indices that are in one row and not in another are the nodes that leave or come.
 use mathlib.Core.Path.{_≡_, refl, ap, ap₂}
-use mathlib.Core.Bool.{Bool, true, false, not, _&&_, cond, and-true}
+use mathlib.Core.Bool.{Bool, true, false, not, _&&_, cond, and-true, _||_}
 use mathlib.Core.List.{List, _∷_}
 use Prim.Native.Nat.{ℕ, zero, suc, _+_, _-_, _^_, _≤_, _<_}
 use native.Mathlib.Nat.{add-zero, add-suc}
@@ -8,14 +8,14 @@ use native.Mathlib.Decide.{decLt, ℕ-discrete}
 use native.Mathlib.Omega.{arith}
 use borrow.Author.Tests.{ltb-true, leb-true, lt-ltb, le-ltb, le-leb, eq-eqb, ne-eqb}
 use lib.Dec.{eqb, leb, ltb}
-use Rattle.tree.specs.Held.{Nodes, both}
+use Rattle.tree.specs.Held.{Nodes}
 use Rattle.tree.specs.Block.{node}
 use Rattle.tree.proofs.Coordinates.{past-le, node-in-tree, block-of-node}
-use Rattle.layout.specs.Layout.{block, either}
-use Rattle.layout.specs.Rows.{no-index, startAt, runAt, loneAt, inRow, rowsHold, holdsNode}
+use Rattle.layout.specs.Layout.{block}
+use Rattle.layout.specs.Rows.{no-index, startAt, runAt, loneAt, inRow, rowsHold, holdsNode, upFrom}
 use Rattle.layout.specs.declared.Layout.{Layout}
 use Rattle.layout.proofs.Bounds.{power-le-4096}
-use Rattle.table.specs.Pairing.{upFrom, keep, leavers, places, pair}
+use Rattle.table.specs.Pairing.{keep, leavers, places, pair}
 use Rattle.table.specs.Plan.{rowHolds, onlyFrom, nodesAt, levelShifts, rowOf, indexOn, nodesBut, shiftsAt, LevelWithin, Plannable}
 use Rattle.table.specs.declared.plan.Row.{Row}
 use Rattle.table.proofs.Least.{only-step, only-empty}
@@ -64,7 +64,7 @@ none-past-level m L l hole i within q r =
     not-lone (no e) = ne-eqb (loneAt L l) i e
 
     by-tests : (s : Bool) → leb (startAt L l) i ≡ s → (t : Bool) → ltb i (startAt L l + runAt L l) ≡ t
-        → (either (both s t) false && not (eqb i hole)) ≡ false
+        → (((s && t) || false) && not (eqb i hole)) ≡ false
     by-tests true f true g =
         let lo = leb-true (startAt L l) i f in
         let hi = ltb-true i (startAt L l + runAt L l) g in

@@ -7,13 +7,9 @@ use Prim.Native.Nat.{ℕ, zero, suc, _-_, _^_}
 use lib.Dec.{eqb}
 use lib.ListN.{getD, length, set}
 use Rattle.tree.specs.Held.{Nodes}
+use Rattle.layout.specs.Rows.{upFrom}
 use Rattle.table.specs.Table.{nodeOf, withNode, occupied}
 use Rattle.table.specs.declared.Move.{Move}
-
--- n numbers from a on
-abbrev pub upFrom : ℕ → ℕ → List ℕ
-upFrom a zero = []
-upFrom a (suc n) = a ∷ upFrom (suc a) n
 
 abbrev pub keep : (ℕ → Bool) → List ℕ → List ℕ
 keep p [] = []

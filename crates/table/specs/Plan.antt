@@ -5,11 +5,11 @@ use mathlib.Core.List.{List, _++_, map}
 use Prim.Native.Nat.{ℕ, _+_, _-_, _^_, _≤_, _<_}
 use lib.Dec.{eqb, leb, ltb}
 use lib.ListN.{getD, length, take}
-use Rattle.tree.specs.Held.{Nodes, both}
+use Rattle.tree.specs.Held.{Nodes}
 use Rattle.layout.specs.Runs.{Near}
-use Rattle.layout.specs.Rows.{no-index, startAt, runAt, loneAt, inRow, holdsNode}
+use Rattle.layout.specs.Rows.{no-index, startAt, runAt, loneAt, inRow, holdsNode, upFrom}
 use Rattle.layout.specs.declared.Layout.{Layout}
-use Rattle.table.specs.Pairing.{upFrom, keep, Shift, pair, leavers, places, shifts, newcomer}
+use Rattle.table.specs.Pairing.{keep, Shift, pair, leavers, places, shifts, newcomer}
 use Rattle.table.specs.declared.Move.{Move}
 use Rattle.table.specs.declared.plan.Plan.{Plan}
 use Rattle.table.specs.declared.plan.Planned.{Planned}
@@ -38,7 +38,7 @@ leastOnly v w a = getD (onlyFrom v w a) 0 no-index
 
 -- the candidate c, where it is at least a, less than the best so far, and passes the test; else the best so far
 unfoldable pub betterOf : (ℕ → Bool) → ℕ → ℕ → ℕ → ℕ
-betterOf p a c best = cond (both (leb a c) (ltb c best) && p c) c best
+betterOf p a c best = cond (leb a c && ltb c best && p c) c best
 
 -- the moves of a plan: its first n entries
 abbrev pub movesIn : Plan → List Move

@@ -1,12 +1,12 @@
 -- A node by its level and its index in the level, left to right from 0, and document 01's terms once more in these coordinates, in which
 -- all but "held" are inequalities between pages. `proofs/Bridge.antt` shows that they say the same; nothing but proofs uses them.
 use mathlib.Core.Path.{_≡_}
-use mathlib.Core.Bool.{Bool, true, false}
+use mathlib.Core.Bool.{Bool, true, false, _&&_}
 use Prim.Native.Nat.{ℕ, suc, _+_, _-_, _*_, _^_, _≤_, _<_}
 use lib.Dec.{leb, ltb}
 use Rattle.tree.specs.Node.{depth}
 use Rattle.tree.specs.Node as Node
-use Rattle.tree.specs.Held.{Nodes, both, count}
+use Rattle.tree.specs.Held.{Nodes, count}
 
 pub record Block : Type 0 where
   pub level : ℕ
@@ -31,10 +31,10 @@ Blocks = Block → Bool
 
 -- a set of nodes as a set of blocks, and back
 abbrev pub blocksOf : ℕ → Nodes → Blocks
-blocksOf h A b = both (leb (past b) (2 ^ h)) (A (node h b))
+blocksOf h A b = leb (past b) (2 ^ h) && A (node h b)
 
 abbrev pub nodesOf : ℕ → Blocks → Nodes
-nodesOf h B n = both (both (ltb 0 n) (ltb n (2 ^ suc h))) (B (blockOf h n))
+nodesOf h B n = (ltb 0 n && ltb n (2 ^ suc h)) && B (blockOf h n)
 
 -- the blocks lie in a tree of height h
 abbrev pub BWithin : ℕ → Blocks → Type 0
