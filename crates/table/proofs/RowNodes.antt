@@ -6,7 +6,7 @@ use Prim.Native.Nat.{ℕ, zero, suc, _+_, _-_, _^_, _≤_, _<_}
 use native.Mathlib.Nat.{add-zero, add-suc}
 use native.Mathlib.Decide.{decLt, ℕ-discrete}
 use native.Mathlib.Omega.{arith}
-use borrow.Author.Tests.{ltb-true, leb-true, lt-ltb, le-ltb, le-leb, eq-eqb, ne-eqb}
+use borrow.Author.Tests.{ltb-true, leb-true, lt-ltb, le-ltb, le-leb, lt-leb, eq-eqb, ne-eqb}
 use lib.Dec.{eqb, leb, ltb}
 use Rattle.tree.specs.Held.{Nodes}
 use Rattle.tree.specs.Block.{node}
@@ -35,14 +35,22 @@ node-by-row h L l i low q r =
 -- the hole is the node given up, if that is on this level
 hole-by-node : (b gone i : ℕ) → i < b → b ≤ 4096 → eqb i (indexOn b gone) ≡ eqb (b + i) gone
 hole-by-node b gone i q small =
-    elim (decLt gone b) [
-      | yes r ↦ rw (lt-ltb gone b r, ne-eqb i no-index (omega arith), ne-eqb (b + i) gone (omega arith))
-      | no r ↦ rw (le-ltb gone b (omega arith)) (by-index (ℕ-discrete (b + i) gone) r)
-    ]
+    by-start (decLt gone b)
   where
-    by-index : Dec (b + i ≡ gone) → ¬ (gone < b) → eqb i (gone - b) ≡ eqb (b + i) gone
+    other : ¬ (b + i ≡ gone) → eqb i no-index ≡ eqb (b + i) gone
+    other e = rw (ne-eqb i no-index (omega arith), ne-eqb (b + i) gone e)
+
+    by-index : Dec (b + i ≡ gone) → b ≤ gone → eqb i (gone - b) ≡ eqb (b + i) gone
     by-index (yes e) r = rw (eq-eqb (b + i) gone e) (eq-eqb i (gone - b) (omega arith))
     by-index (no e) r = rw (ne-eqb (b + i) gone e) (ne-eqb i (gone - b) (λ f. e (omega arith)))
+
+    by-end : Dec (gone - b < b) → b ≤ gone → eqb i (cond (ltb (gone - b) b) (gone - b) no-index) ≡ eqb (b + i) gone
+    by-end (yes s) r = rw (lt-ltb (gone - b) b s) (by-index (ℕ-discrete (b + i) gone) r)
+    by-end (no s) r = rw (le-ltb (gone - b) b (omega arith)) (other (λ e. s (omega arith)))
+
+    by-start : Dec (gone < b) → eqb i (indexOn b gone) ≡ eqb (b + i) gone
+    by-start (yes r) = rw (lt-leb b gone r) (other (λ e. absurd (omega arith)))
+    by-start (no r) = rw (le-leb b gone (omega arith)) (by-end (decLt (gone - b) b) (omega arith))
 
 module _ (h : ℕ) (L : Layout) (l i : ℕ) (low : h ≤ 12) (q : l ≤ h) (small : 2 ^ (h - l) ≤ 4096) (r : i < 2 ^ (h - l)) where
   pub row-with-hole : (gone : ℕ) → rowHolds (rowOf L l (indexOn (2 ^ (h - l)) gone)) i ≡ nodesBut h L gone (2 ^ (h - l) + i)

@@ -24,6 +24,10 @@ rowHolds w i = inRow (w .start) (w .run) (w .lone) i && not (eqb i (w .hole))
 abbrev pub lastOf : Row → ℕ
 lastOf w = cond (eqb (w .run) 0) (w .start) (w .start + (w .run - 1))
 
+-- two rows with the same numbers
+abbrev pub sameRow : Row → Row → Bool
+sameRow v w = eqb (v .start) (w .start) && eqb (v .run) (w .run) && eqb (v .lone) (w .lone) && eqb (v .hole) (w .hole)
+
 -- index i is in the one row and not in the other
 abbrev pub onlyIn : Row → Row → ℕ → Bool
 onlyIn v w i = rowHolds v i && not (rowHolds w i)
@@ -78,9 +82,9 @@ pub record LevelShifted (b : ℕ) (old new : Row) (owners : List ℕ) (before : 
 abbrev pub rowOf : Layout → ℕ → ℕ → Row
 rowOf L l hole = record { start = startAt L l; run = runAt L l; lone = loneAt L l; hole = hole }
 
--- the index of node n on the level whose first node is b
+-- the index of node n on the level whose first node is b, and which has b nodes; no index for a node of another level
 abbrev pub indexOn : ℕ → ℕ → ℕ
-indexOn b n = cond (ltb n b) no-index (n - b)
+indexOn b n = cond (leb b n && ltb (n - b) b) (n - b) no-index
 
 -- the node with index i on that level; 0 where there is no index
 abbrev pub nodeOn : ℕ → ℕ → ℕ
