@@ -139,7 +139,7 @@ unshifted : (b : ℕ) (v : Row) (owners : List ℕ) (plan : Plan) → LevelShift
 unfolding levelShifts spareIndex
 unshifted b v owners plan =
     let none = only-in-itself v in
-    record { moves = rw (none, append-nil); count = rw none (omega arith); spare = rw none; }
+    record { moves = rw (none, append-nil); count = rw none (omega arith); spare = rw none }
 
 pub same-row-unshifted : (b : ℕ) (v w : Row) (owners : List ℕ) (plan : Plan) → sameRow v w ≡ true
     → LevelShifted b v w owners plan (record { plan = plan; spare = no-index })
