@@ -16,6 +16,7 @@ no-index = 65535
 
 -- Lone blocks
 
+-- by whether a number of subtrees is even or odd
 abbrev pub settles : ℕ → (ℕ → ℕ) → Half → ℕ
 settles here above (even w) = above w
 settles here above (odd w) = here
@@ -37,6 +38,7 @@ abbrev pub lonesFrom : ℕ → State → List ℕ → List ℕ
 lonesFrom l s [] = []
 lonesFrom l s (c ∷ cs) = loneIndex s c cs ∷ lonesFrom (suc l) (rise (place l s c)) cs
 
+-- for all levels
 unfoldable pub lones : List ℕ → List ℕ
 lones cs = lonesFrom 0 (full 0) cs
 
@@ -46,6 +48,7 @@ rowsOf cs = record { start = starts cs; run = runs cs; lone = lones cs }
 
 -- Rows, of any three lists
 
+-- the three numbers of a level
 abbrev pub startAt : Layout → ℕ → ℕ
 startAt L l = getD (L .start) l 0
 

@@ -11,6 +11,7 @@ use Rattle.layout.specs.Rows.{upFrom}
 use Rattle.table.specs.Table.{nodeOf, withNode, occupied}
 use Rattle.table.specs.declared.Move.{Move}
 
+-- the numbers that pass the test, in their order
 abbrev pub keep : (ℕ → Bool) → List ℕ → List ℕ
 keep p [] = []
 keep p (x ∷ xs) = cond (p x) (x ∷ keep p xs) (keep p xs)
@@ -32,6 +33,7 @@ pub record Shift : Type 0 where
   pub from : ℕ
   pub to : ℕ
 
+-- the first with the first, the second with the second, as long as both have one
 abbrev pub pair : List ℕ → List ℕ → List Shift
 pair [] ys = []
 pair (x ∷ xs) [] = []

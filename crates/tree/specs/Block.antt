@@ -8,10 +8,12 @@ use Rattle.tree.specs.Node.{depth}
 use Rattle.tree.specs.Node as Node
 use Rattle.tree.specs.Held.{Nodes, count}
 
+-- a block: a node by its level and its index there
 pub record Block : Type 0 where
   pub level : ℕ
   pub index : ℕ
 
+-- its first page, and the page after its last one
 abbrev pub first : Block → ℕ
 first b = b .index * 2 ^ b .level
 
@@ -26,6 +28,7 @@ node h b = 2 ^ (h - b .level) + b .index
 abbrev pub blockOf : ℕ → ℕ → Block
 blockOf h n = record { level = Node.level h n; index = n - 2 ^ depth n }
 
+-- a set of blocks
 abbrev pub Blocks : Type 0
 Blocks = Block → Bool
 
@@ -56,6 +59,7 @@ pub record Inside (a b : Block) : Type 0 where
   pub from : first b ≤ first a
   pub to : past a ≤ past b
 
+-- legal, free, dense, tail, meager and safe, as in Held.antt
 abbrev pub BLegal : Blocks → Type 0
 BLegal B = (a b : Block) → B a ≡ true → B b ≡ true → Meet a b → a ≡ b
 

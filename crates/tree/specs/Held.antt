@@ -6,6 +6,7 @@ use Prim.Native.Nat.{ℕ, zero, suc, _+_, _^_, _<_}
 use lib.Dec.{eqb}
 use Rattle.tree.specs.Node.{InTree, Under, level, LeftOf}
 
+-- a set of nodes
 abbrev pub Nodes : Type 0
 Nodes = ℕ → Bool
 
@@ -51,6 +52,7 @@ pub record Safe (h : ℕ) (A : Nodes) : Type 0 where
   pub one-tail : (u t t′ : ℕ) → Held A u → Tail h A u t → Tail h A u t′ → t ≡ t′
   pub no-meager : (u x : ℕ) → Held A u → Meager h A (level h u) x → ¬ LeftOf h x u
 
+-- 1 for true and 0 for false
 abbrev pub one-if : Bool → ℕ
 one-if true = 1
 one-if false = 0
