@@ -6,7 +6,7 @@ use crate::{LEVELS, NONE};
 pub type Counts = [u16; LEVELS];
 
 /// The blocks of one level: the `run` indices from `start` on and, unless it is [`NONE`], `lone`.
-#[derive(Clone, Copy)]
+#[derive(Clone, Copy, PartialEq)]
 pub struct Row {
     pub start: u16,
     pub run: u16,

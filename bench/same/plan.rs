@@ -34,7 +34,7 @@ impl Plan {
 }
 
 /// A row without the block at `hole`, if that is not [`NONE`].
-#[derive(Clone, Copy)]
+#[derive(Clone, Copy, PartialEq)]
 struct Places {
     row: Row,
     hole: u16,
@@ -71,21 +71,35 @@ pub fn plan_moves(
     let mut plan = Plan::default();
     let mut node = 0;
     for level in 0..=height {
-        let base: u16 = 1 << (height - level);
+        let base = 1 << (height - level);
         let old = Places {
             row: old[usize::from(level)],
-            hole: gone.checked_sub(base).unwrap_or(NONE),
+            hole: index_on(base, gone),
         };
         let new = Places {
             row: new[usize::from(level)],
             hole: NONE,
         };
+        // Most levels stay as they were.
+        if old == new {
+            continue;
+        }
         let spare = shift_level(&mut plan, base, &old, &new, owners);
         if wanted == Some(level) && spare != NONE {
             node = base + spare;
         }
     }
     (plan, node)
+}
+
+/// The index of a node on the level whose first node is `base`, or [`NONE`] for a node of another level.
+fn index_on(base: u16, node: u16) -> u16 {
+    let index = node.wrapping_sub(base);
+    if index < base {
+        index
+    } else {
+        NONE
+    }
 }
 
 /// Plans the moves of the level whose first node is `base`, and gives the first place left over, or [`NONE`].

@@ -14,6 +14,7 @@ pub fn survey(height: u16, table: &[u16; TENANTS], owners: &mut Owners) -> Optio
         return None;
     }
     for (tenant, &node) in (1..).zip(table) {
+        // The remainder changes no node; it spares a test of each.
         owners[usize::from(node) % NODES] = tenant;
     }
     let counts = level_counts(height, owners);

@@ -68,19 +68,19 @@ const fn curve(
 
 /// All contestants, on a scale of powers of ten.
 const ALL: [Curve; 4] = [
-    curve("second planner, grant", "grant", SECOND, "#b5651d", ""),
-    curve("library, grant", "grant", LIBRARY, "#1f5fa8", ""),
-    curve("same algorithm in Rust, grant", "grant", SAME, "#1f5fa8", "5 4"),
-    curve("bare pass", "grant", PASS, "#777777", ""),
+    curve("second planner, grant", "grant", SECOND, "#b5651d", "none"),
+    curve("library, grant", "grant", LIBRARY, "#1f5fa8", "none"),
+    curve("Rust, grant", "grant", SAME, "#1f5fa8", "5 4"),
+    curve("bare pass", "grant", PASS, "#777777", "none"),
 ];
 
 /// The library and the same algorithm, on an even scale.
 const NEAR: [Curve; 6] = [
-    curve("library, map", "map", LIBRARY, "#2e7d32", ""),
+    curve("library, map", "map", LIBRARY, "#2e7d32", "none"),
     curve("Rust, map", "map", SAME, "#2e7d32", "5 4"),
-    curve("library, release", "release", LIBRARY, "#8e24aa", ""),
+    curve("library, release", "release", LIBRARY, "#8e24aa", "none"),
     curve("Rust, release", "release", SAME, "#8e24aa", "5 4"),
-    curve("library, grant", "grant", LIBRARY, "#1f5fa8", ""),
+    curve("library, grant", "grant", LIBRARY, "#1f5fa8", "none"),
     curve("Rust, grant", "grant", SAME, "#1f5fa8", "5 4"),
 ];
 
@@ -116,14 +116,8 @@ const PANELS: [(Panel, &[Curve]); 2] = [
     (
         Panel {
             left: 490.0,
-            scale: |time| time / 8000.0,
-            ticks: &[
-                (0.0, "0"),
-                (2000.0, "2 µs"),
-                (4000.0, "4 µs"),
-                (6000.0, "6 µs"),
-                (8000.0, "8 µs"),
-            ],
+            scale: |time| time / 6000.0,
+            ticks: &[(0.0, "0"), (2000.0, "2 µs"), (4000.0, "4 µs"), (6000.0, "6 µs")],
             title: "the library and the same algorithm in Rust",
         },
         &NEAR,
@@ -156,11 +150,17 @@ impl Panel {
                 y + 4.0
             )?;
         }
-        for tenants in [0, 1024, 2048, 3072, 4096] {
+        for (tenants, text) in [
+            (0, "0"),
+            (1024, "1,024"),
+            (2048, "2,048"),
+            (3072, "3,072"),
+            (4096, "4,096"),
+        ] {
             let x = self.x(tenants.into());
             writeln!(
                 out,
-                r#"<text x="{x}" y="{}" text-anchor="middle">{tenants}</text>"#,
+                r#"<text x="{x}" y="{}" text-anchor="middle">{text}</text>"#,
                 bottom + 18.0
             )?;
         }

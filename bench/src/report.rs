@@ -52,7 +52,7 @@ fn goals(out: &mut String, goals: &[Goal]) -> fmt::Result {
         shown.push(goal.what);
         let verdict = if goal.is_met() { "met" } else { "missed" };
         let (what, place) = (goal.what, &goal.place);
-        let (limit, measured) = (number(goal.limit), number(goal.measured));
+        let (limit, measured) = (exact(goal.limit), exact(goal.measured));
         writeln!(out, "| {what} | {limit} | {measured} | {place} | {verdict} |")?;
     }
     Ok(())
@@ -135,6 +135,14 @@ fn stack(out: &mut String, lines: &str) -> fmt::Result {
 fn spread(ratio: &Spread) -> String {
     let [low, median, high] = [ratio.low, ratio.median, ratio.high].map(number);
     format!("{median} ({low}–{high})")
+}
+
+/// A number with as many as three decimals; whole from 1,000 on.
+fn exact(value: f64) -> String {
+    if value >= 1000.0 {
+        return thousands(value);
+    }
+    ((value * 1000.0).round() / 1000.0).to_string()
 }
 
 /// A number with about three digits; whole ones from 1,000 on.
