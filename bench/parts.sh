@@ -1,3 +1,4 @@
+# shellcheck shell=bash
 # What bench/run and tests/speed/run have in common; both are at the repository's root when they read this.
 archive=target/staticlib/libreserve.a
 out=target/bench

@@ -1,8 +1,7 @@
 //! The library's algorithm in safe Rust: the same steps over the same bytes, each written the quickest way that was
 //! found.
 //!
-//! The functions of [`door`] are those of include/reserve.h. They keep their names in the program and are never
-//! inlined, so that a caller's constants do not speed them up, and so that callgrind finds them.
+//! The functions of [`door`] are those of include/reserve.h. They are never inlined, so that callgrind finds them.
 
 #![forbid(unsafe_code)]
 

@@ -7,10 +7,10 @@ use oracle::subject::{Reach, TABLE_BYTES};
 use same::door::Outcome;
 
 use crate::contestant::{Contestant, Library, Same, Second};
-use crate::history::{history, most_moves};
+use crate::history::{counted, Counted};
 use crate::input::{Ask, Input, Lent};
 use crate::plot;
-use crate::rows::{rows, Row, HEIGHTS, SEED};
+use crate::rows::{rows, Row, SEED};
 
 /// The calls of each random history, of which there is one for each height.
 const CALLS: usize = 300;
@@ -25,9 +25,14 @@ pub fn check() -> Checked {
     for Row { inputs, .. } in rows().iter().chain(&plot::rows()) {
         calls += check_inputs(inputs)?;
     }
-    for height in HEIGHTS {
-        calls += check_inputs(&most_moves(height, &mut random))?;
-        calls += check_history(height, &history(height, &mut random), &mut random)?;
+    for Counted {
+        height,
+        most_moves,
+        history,
+    } in counted()
+    {
+        calls += check_inputs(&most_moves)?;
+        calls += check_history(height, &history, &mut random)?;
     }
     for height in 0..=12 {
         let asks = random_asks(height, &mut random);

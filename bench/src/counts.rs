@@ -6,15 +6,14 @@
 use std::error::Error;
 use std::hint::black_box;
 
-use oracle::random::Random;
 use oracle::subject::TABLE_BYTES;
 use same::door::Outcome;
 
 use crate::contestant::{Contestant, Library, Same};
-use crate::history::{history, most_moves};
+use crate::history::{counted, Counted};
 use crate::input::{Ask, Lent};
 use crate::pass::bare_pass;
-use crate::rows::{rows, HEIGHTS, SEED};
+use crate::rows::rows;
 
 /// One call, and the instructions that it took.
 #[derive(Clone, Debug)]
@@ -34,8 +33,7 @@ pub struct Count {
 /// Makes every call once with each planner that is counted.
 pub fn make_calls() {
     let rows = rows();
-    let mut random = Random::new(SEED);
-    let most_moves = HEIGHTS.map(|height| most_moves(height, &mut random));
+    let counted = counted();
     // Planners were asked up to here too, to find out what comes of the calls.
     mark();
     for (place, row) in rows.iter().enumerate() {
@@ -43,12 +41,17 @@ pub fn make_calls() {
             both("row", place, input.height, input.ask, &input.lent);
         }
     }
-    for (height, inputs) in HEIGHTS.into_iter().zip(most_moves) {
-        for input in inputs {
+    for Counted {
+        height,
+        most_moves,
+        history,
+    } in counted
+    {
+        for input in most_moves {
             both("most-moves", height.into(), height, input.ask, &input.lent);
         }
         let mut lent = Lent::new([0; TABLE_BYTES]);
-        for ask in history(height, &mut random) {
+        for ask in history {
             lent = both("history", height.into(), height, ask, &lent);
         }
     }
@@ -93,6 +96,10 @@ fn count(line: &str, total: &str) -> Result<Count, Box<dyn Error>> {
     let &[who, set, place, call, answer, moves] = words.as_slice() else {
         return Err(format!("no line about a call: {line}").into());
     };
+    let instructions = total.trim().parse()?;
+    if instructions == 0 {
+        return Err(format!("callgrind counted nothing: {line}").into());
+    }
     Ok(Count {
         who: who.into(),
         set: set.into(),
@@ -100,6 +107,6 @@ fn count(line: &str, total: &str) -> Result<Count, Box<dyn Error>> {
         call: call.into(),
         answer: answer.parse()?,
         moves: moves.parse()?,
-        instructions: total.trim().parse()?,
+        instructions,
     })
 }

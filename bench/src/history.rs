@@ -7,7 +7,7 @@ use oracle::random::Random;
 
 use crate::input::{Ask, Input};
 use crate::reserve::Reserve;
-use crate::rows::outcome_of;
+use crate::rows::{outcome_of, HEIGHTS, SEED};
 
 /// The fewest calls of a history; it goes to full and back as often as that takes.
 const CALLS: usize = 400;
@@ -15,6 +15,23 @@ const CALLS: usize = 400;
 /// How many reserves are searched for calls with the most moves, and how many of these calls are kept.
 const SEARCHED: usize = 200;
 const KEPT: usize = 8;
+
+/// What is counted at a height besides the rows of the table.
+pub struct Counted {
+    pub height: u16,
+    pub most_moves: Vec<Input>,
+    pub history: Vec<Ask>,
+}
+
+/// The same at every call, for each height.
+pub fn counted() -> [Counted; HEIGHTS.len()] {
+    let mut random = Random::new(SEED);
+    HEIGHTS.map(|height| Counted {
+        height,
+        most_moves: most_moves(height, &mut random),
+        history: history(height, &mut random),
+    })
+}
 
 /// Whoever holds a block, and how many pages are left.
 struct Crowd<'a> {
@@ -26,7 +43,7 @@ struct Crowd<'a> {
 }
 
 /// A history of grants and releases at a height, refused ones among them.
-pub fn history(height: u16, random: &mut Random) -> Vec<Ask> {
+fn history(height: u16, random: &mut Random) -> Vec<Ask> {
     let mut crowd = Crowd {
         random,
         height,
@@ -102,7 +119,7 @@ impl Crowd<'_> {
 }
 
 /// The calls with the most moves among those on some reserves that are nearly full, grants and releases apart.
-pub fn most_moves(height: u16, random: &mut Random) -> Vec<Input> {
+fn most_moves(height: u16, random: &mut Random) -> Vec<Input> {
     let mut grants = Vec::new();
     let mut releases = Vec::new();
     for _ in 0..SEARCHED {

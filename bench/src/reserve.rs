@@ -11,7 +11,7 @@ use crate::input::{Ask, Input, Lent, Table};
 
 /// A reserve in order, and who holds a block in it.
 pub struct Reserve {
-    pub height: u16,
+    height: u16,
     table: Box<Table>,
     holders: Vec<Holder>,
 }
