@@ -37,7 +37,7 @@ impl Goal {
 pub fn of_times(rows: &[Row], figures: &[Figures]) -> Vec<Goal> {
     let ratios = |who: usize| {
         let places = rows.iter().zip(figures);
-        places.map(move |(row, figures)| (row, figures.ratios[who].median))
+        places.map(move |(row, figures)| (row, figures.ratios[who].middle))
     };
     let named = |(row, ratio): (&Row, f64)| (ratio, row.name());
     let full = |(row, _): &(&Row, f64)| changes_full(row);

@@ -1,7 +1,7 @@
 //! The benchmark's parts, which `bench/run` puts together:
 //!
 //! - `bench check` compares the planners on everything that is timed or counted, and on random calls;
-//! - `bench time ROUNDS` times them and prints a line for each row of a round;
+//! - `bench time ROUNDS NAME` times them and prints a line for each row of a round, with this program's name;
 //! - `bench calls` makes the calls that callgrind counts and prints a line about each;
 //! - `bench goals DIR` judges the goals that instructions decide, from DIR/calls.txt and DIR/callgrind.out;
 //! - `bench report DIR` writes DIR/table.md and DIR/bench.svg, from these two and DIR/times.txt, DIR/stack.txt and
@@ -37,14 +37,14 @@ fn main() -> ExitCode {
     let words: Vec<&str> = arguments.iter().map(String::as_str).collect();
     let done = match words[..] {
         ["check"] => check(),
-        ["time", rounds] => time(rounds),
+        ["time", rounds, program] => time(rounds, program),
         ["calls"] => {
             counts::make_calls();
             Ok(true)
         }
         ["goals", dir] => goals(Path::new(dir)),
         ["report", dir] => report(Path::new(dir)),
-        _ => Err("usage: bench check | time ROUNDS | calls | goals DIR | report DIR".into()),
+        _ => Err("usage: bench check | time ROUNDS NAME | calls | goals DIR | report DIR".into()),
     };
     match done {
         Ok(true) => ExitCode::SUCCESS,
@@ -70,10 +70,10 @@ fn check() -> Result<bool> {
     Ok(true)
 }
 
-fn time(rounds: &str) -> Result<bool> {
+fn time(rounds: &str, program: &str) -> Result<bool> {
     let mut rows = rows::rows();
     rows.append(&mut plot::rows());
-    timing::time(&rows, rounds.parse()?);
+    timing::time(&rows, rounds.parse()?, program);
     Ok(true)
 }
 

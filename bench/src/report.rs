@@ -63,7 +63,7 @@ fn rows(out: &mut String, height: u16, findings: &Findings) -> fmt::Result {
     writeln!(out, "\n### Height {height}, {pages} pages\n")?;
     writeln!(
         out,
-        "Medians over {} rounds, seed {SEED}; in brackets the first and the third quartile.\n",
+        "{} rounds, seed {SEED}; in brackets the first and the third quartile.\n",
         findings.rounds
     )?;
     let times = "Library, ns | Rust, ns | Second, ns | Pass, ns";
@@ -73,7 +73,7 @@ fn rows(out: &mut String, height: u16, findings: &Findings) -> fmt::Result {
     writeln!(out, "|---|---|---|{}", "---:|".repeat(11))?;
     let lines = findings.rows.iter().zip(findings.figures).enumerate();
     for (place, (row, figures)) in lines.filter(|(_, (row, _))| row.height == height) {
-        let time = |who: usize| thousands(figures.times[who].median);
+        let time = |who: usize| thousands(figures.times[who].middle);
         let ratio = |who: usize| spread(&figures.ratios[who]);
         let [library, same] = ["library", "same"].map(|who| median(of_row(findings.counts, place, who)));
         let cells = [
@@ -133,8 +133,8 @@ fn stack(out: &mut String, lines: &str) -> fmt::Result {
 
 /// A ratio with its quartiles.
 fn spread(ratio: &Spread) -> String {
-    let [low, median, high] = [ratio.low, ratio.median, ratio.high].map(number);
-    format!("{median} ({low}–{high})")
+    let [low, middle, high] = [ratio.low, ratio.middle, ratio.high].map(number);
+    format!("{middle} ({low}–{high})")
 }
 
 /// A number with as many as three decimals; whole from 1,000 on.

@@ -1,6 +1,7 @@
 //! Times of calls, contestant beside contestant.
 
 use std::array::from_fn;
+use std::collections::BTreeMap;
 use std::error::Error;
 use std::hint::black_box;
 use std::time::Instant;
@@ -42,40 +43,51 @@ struct Sample {
 }
 
 /// Times the rows in so many rounds, each of which goes through all rows and contestants, and prints a line for each
-/// row of a round.
-pub fn time(rows: &[Row], rounds: usize) {
+/// row of a round. It begins with the name of this program, as there are several.
+pub fn time(rows: &[Row], rounds: usize, program: &str) {
     for round in 0..rounds {
         for (place, row) in rows.iter().enumerate() {
             let Sample { times, ratios } = sample(row, round);
             let numbers: Vec<String> = times.iter().chain(&ratios).map(f64::to_string).collect();
-            println!("{place} {}", numbers.join(" "));
+            println!("{program} {place} {}", numbers.join(" "));
         }
     }
 }
 
-/// The figures of so many rows, from the lines of all rounds.
+/// The samples of a row, by program.
+type Samples<'a> = BTreeMap<&'a str, Vec<Sample>>;
+
+/// The figures of so many rows, from the lines of all rounds and programs.
 pub fn read(lines: &str, rows: usize) -> Result<Vec<Figures>, Box<dyn Error>> {
-    let mut samples: Vec<Vec<Sample>> = (0..rows).map(|_| Vec::new()).collect();
+    let mut samples: Vec<Samples> = (0..rows).map(|_| Samples::new()).collect();
     for line in lines.lines() {
-        let (place, numbers) = line.split_once(' ').ok_or("a line without numbers")?;
+        let (program, rest) = line.split_once(' ').ok_or("a line without a row")?;
+        let (place, numbers) = rest.split_once(' ').ok_or("a line without numbers")?;
         let numbers: Vec<f64> = numbers.split(' ').map(str::parse).collect::<Result<_, _>>()?;
         let numbers: [f64; 2 * CONTESTANTS] = numbers.try_into().map_err(|_| "a line with other numbers")?;
         let of_row = samples.get_mut(place.parse::<usize>()?).ok_or("a line of no row")?;
-        of_row.push(Sample {
+        of_row.entry(program).or_default().push(Sample {
             times: from_fn(|who| numbers[who]),
             ratios: from_fn(|who| numbers[CONTESTANTS + who]),
         });
     }
-    if samples.iter().any(Vec::is_empty) {
+    if samples.iter().any(Samples::is_empty) {
         return Err("a row that was not timed".into());
     }
-    Ok(samples.iter().map(|samples| figures(samples)).collect())
+    Ok(samples.iter().map(figures).collect())
 }
 
-fn figures(samples: &[Sample]) -> Figures {
+fn figures(samples: &Samples) -> Figures {
+    let over = |number: &dyn Fn(&Sample) -> f64| {
+        let groups: Vec<Vec<f64>> = samples
+            .values()
+            .map(|group| group.iter().map(number).collect())
+            .collect();
+        Spread::over(&groups)
+    };
     Figures {
-        times: from_fn(|who| Spread::of(samples.iter().map(|sample| sample.times[who]))),
-        ratios: from_fn(|who| Spread::of(samples.iter().map(|sample| sample.ratios[who]))),
+        times: from_fn(|who| over(&|sample| sample.times[who])),
+        ratios: from_fn(|who| over(&|sample| sample.ratios[who])),
     }
 }
 
