@@ -43,7 +43,7 @@ uint16_t __wrap_reserve_draw(uint16_t height, const uint8_t *table, size_t table
     return answer;
 }
 
-/* 5: the reader looks for a grant by pages that is cut off one byte too far. */
+/* 5: a grant by pages that is cut off is reported one byte too far on, unless near the front. */
 struct reserve_reading __wrap_reserve_read(const uint8_t *journal, size_t journal_length, size_t offset) {
     struct reserve_reading got = __real_reserve_read(journal, journal_length, offset);
     if (MISTAKE == 5 && got.answer == RESERVE_CUT_OFF && journal[offset] == RESERVE_KIND_GRANT_PAGES && offset > 8)
