@@ -156,7 +156,11 @@ impl Subject for Door {
     fn read(&mut self, journal: &[u8], offset: usize) -> Reading {
         let read = unsafe { reserve_read(journal.as_ptr(), journal.len(), offset) };
         if read.answer != 0 || read.kind == 0 {
-            assert_eq!([read.kind, read.who, read.size], [0; 3], "no record at {offset}, but its fields");
+            assert_eq!(
+                [read.kind, read.who, read.size],
+                [0; 3],
+                "no record at {offset}, but its fields"
+            );
         }
         if read.answer != 0 {
             return Reading::Refused {
