@@ -1,0 +1,57 @@
+// The reserve's calls over a lent table and a lent list of moves.
+ghost use mathlib.Core.Path.{_≡_};
+ghost use mathlib.Core.List.{_++_};
+ghost use Prim.Native.Nat.{_≤_, _<_};
+ghost use lib.ListN.{length, getD, drop};
+ghost use Rattle.table.specs.Plan.{movesIn};
+ghost use Rattle.calls.specs.Accepted.{nobody};
+ghost use Rattle.calls.specs.Step.{step};
+ghost use Rattle.calls.specs.Value.{valueOf};
+ghost use Rattle.planner.specs.Performed.{callOf};
+use calls::Called;
+use table::Move;
+use table::plan::Plan;
+
+// A grant by level or by pages, or a release.
+pub enum Call {
+    GrantLevel { tenant: u16, level: u16 },
+    GrantPages { tenant: u16, pages: u16 },
+    Release { tenant: u16 },
+}
+
+// Runs a call on a list of so many entries, and hands its moves back by value.
+fn run(height: u16, table: &mut [u16], entries: usize, call: Call) -> Called
+    ensures { λ r. ⌜ (valueOf r (now (table .exit)) ≡ step height (now (table .entry)) (callOf call entries)) × (r .plan .n ≤ 4) ⌝ }
+{
+    match call {
+        Call::GrantLevel { tenant, level } => {
+            calls::grant_level(height, table, entries, tenant, level)
+        }
+        Call::GrantPages { tenant, pages } => {
+            calls::grant_pages(height, table, entries, tenant, pages)
+        }
+        Call::Release { tenant } => calls::release(height, table, entries, tenant),
+    }
+}
+
+// A move of a plan.
+fn move_at(plan: Plan, i: usize) -> Move
+    requires { ⌜ i < 4 ⌝ }
+    ensures { λ r. ⌜ r ≡ getD (plan .moves) i nobody ⌝ }
+{
+    let moves = plan.moves;
+    moves[i]
+}
+
+// Puts the moves of a plan at the front of the list, and leaves the entries after them.
+fn fill(plan: Plan, moves: &mut [Move])
+    requires { ⌜ (plan .n ≤ 4) × (plan .n ≤ length (now moves)) ⌝ }
+    ensures { λ _. ⌜ now (moves .exit) ≡ movesIn plan ++ drop (plan .n) (now (moves .entry)) ⌝ }
+{
+    let n = plan.n;
+    let mut i = 0;
+    while i < n {
+        moves[i] = move_at(plan, i);
+        i += 1;
+    }
+}
