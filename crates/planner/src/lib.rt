@@ -7,7 +7,8 @@ ghost use Rattle.table.specs.Plan.{movesIn};
 ghost use Rattle.calls.specs.Accepted.{nobody};
 ghost use Rattle.calls.specs.Step.{step};
 ghost use Rattle.calls.specs.Value.{valueOf};
-ghost use Rattle.planner.specs.Performed.{callOf};
+ghost use Rattle.planner.specs.Performed.{callOf, Performed};
+use calls::Answer;
 use calls::Called;
 use table::Move;
 use table::plan::Plan;
@@ -17,6 +18,12 @@ pub enum Call {
     GrantLevel { tenant: u16, level: u16 },
     GrantPages { tenant: u16, pages: u16 },
     Release { tenant: u16 },
+}
+
+// What a call reports: its answer, and how many moves stand in the list.
+pub struct Report {
+    pub answer: Answer,
+    pub moves: usize,
 }
 
 // Runs a call on a list of so many entries, and hands its moves back by value.
@@ -53,5 +60,18 @@ fn fill(plan: Plan, moves: &mut [Move])
     while i < n {
         moves[i] = move_at(plan, i);
         i += 1;
+    }
+}
+
+// Runs a call, and puts its moves at the front of the list.
+pub fn perform(height: u16, table: &mut [u16], moves: &mut [Move], call: Call) -> Report
+    ensures { λ r. ⌜ Performed height call (now (table .entry)) (now (moves .entry)) r (now (table .exit)) (now (moves .exit)) ⌝ }
+{
+    let called = run(height, table, moves.len(), call);
+    let plan = called.plan;
+    fill(plan, moves);
+    Report {
+        answer: called.answer,
+        moves: plan.n,
     }
 }
