@@ -75,3 +75,38 @@ pub fn perform(height: u16, table: &mut [u16], moves: &mut [Move], call: Call) -
         moves: plan.n,
     }
 }
+
+// The same on a list of four entries of its own, whose moves are handed back by value.
+fn perform_on_four(height: u16, table: &mut [u16], call: Call) -> Called
+    ensures { λ r. ⌜ (valueOf r (now (table .exit)) ≡ step height (now (table .entry)) (callOf call 4)) × (r .plan .n ≤ 4) ⌝ }
+{
+    let unused = Move {
+        tenant: 0,
+        from: 0,
+        to: 0,
+    };
+    let mut list = [unused; 4];
+    let report = perform(height, table, &mut list, call);
+    Called {
+        answer: report.answer,
+        plan: Plan {
+            n: report.moves,
+            moves: list,
+        },
+    }
+}
+
+// The same without a lent list: the moves of a call on a list of so many entries, by value.
+pub fn perform_by_value(height: u16, table: &mut [u16], entries: usize, call: Call) -> Called
+    ensures { λ r. ⌜ (valueOf r (now (table .exit)) ≡ step height (now (table .entry)) (callOf call entries)) × (r .plan .n ≤ 4) ⌝ }
+{
+    if entries < 4 {
+        // Refusals 1 to 3 do not look at the tenant.
+        let number = calls::request::refusal(height, table.len(), entries, 0);
+        return Called {
+            answer: Answer::Refused { number },
+            plan: Plan::none(),
+        };
+    }
+    perform_on_four(height, table, call)
+}

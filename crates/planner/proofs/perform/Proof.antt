@@ -55,7 +55,7 @@ use Rattle.planner.proofs.Call.Laws as Cl′
 use Rattle.planner.proofs.Report as Rp
 use Rattle.planner.proofs.Report.Laws as Rp′
 use Rattle.planner.proofs.Performing.{moves-fit, performed}
-use Rattle.planner.proofs.Walk.{empty, full, word, plan-length, entries, list, val, let-go, answers, second-last}
+use Rattle.planner.proofs.Walk.{empty, full, word, plan-length, entries, list, val, let-go, answers, last-list}
 use Rattle.planner.proofs.run as ran
 use Rattle.planner.proofs.run.Symbol as ran-def
 use Rattle.planner.proofs.run.Symbol.{name as #planner·run}
@@ -170,7 +170,7 @@ module _ {M : Type 1} (𝓤 : URA M) (H : Heap 𝓤) (A : Atoms 𝓤) (W : Given
           -- [what `fill` asks; true; the last table; its token; _12; …]
           calls-at ! (fmOf 𝓤 H (W .laws) 𝓣) (Fill 𝓤 H A mem run) known-fill to-fill (and-then ! (val ! 16 refl) (and-then ! (val ! 4 refl) (no-more !))) (λ u.
           answers ! tt fill.ended (fill.clauses 𝓤 H A mem run) to-fill u (λ _ ws. ws .1 .0 ≡ movesIn (r .plan) ++ dropped (r .plan .n) (y .now)) (λ _ ws. id⊢ 𝓤 _) (λ t ws e is-unit. drop ! $
-          land ! (from ! (stop !)) (init ! 9 refl (nothing-lawful 𝓤 H A W .typed t _ is-unit .0)) $ second-last ! (λ len′.
+          land ! (from ! (stop !)) (init ! 9 refl (nothing-lawful 𝓤 H A W .typed t _ is-unit .0)) $ fsplit ! $ drop ! $ last-list ! (λ len′. move ! (1 ∷ []) $ drop ! $
           -- [the last list; its token; true; the last table; its token; _12; …]
           assigns ! (agg ! (and-then ! (load ! (from ! (fld ! refl (stop !))) (look-in ! 19 (sub ! 0 refl (whole !)))) (and-then ! (load ! (from ! (fld ! refl (stop !))) (look-in ! 17 (sub ! 0 refl (whole !)))) (no-more !)))) (from ! (stop !))
           (init ! 29 refl (LL.lawful Rp.the-type Rp′.the-laws 𝓤 H A W .typed report _ is-report .0)) $ returns ! (look ! 29 refl) $
@@ -196,7 +196,7 @@ module _ {M : Type 1} (𝓤 : URA M) (H : Heap 𝓤) (A : Atoms 𝓤) (W : Given
       answers ! tt ran.ended (ran.clauses 𝓤 H A mem run) to-run v (λ r ws. (valueOf r (ws .1 .0) ≡ step h (x .now) (callOf c (length (y .now)))) × (r .plan .n ≤ 4)) (λ r ws. id⊢ 𝓤 _) (λ r ws met is. drop ! $
       land ! (from ! (stop !)) (init ! 18 refl (LL.lawful Cd.the-type Cd′.the-laws 𝓤 H A W .typed r _ is .0)) $
       rewrite ! 18 (λ (u : Val). ‵ (fat fullShare Cd′.mir l₅ 0 u)) (ap only (LL.tells Cd.the-type Cd′.the-laws r _ is)) refl $
-      second-last ! (λ len. fills r (ws .1 .0) (subst (Is Cd.the-row r) (LL.tells Cd.the-type Cd′.the-laws r _ is) is) met 𝓣 known-fill l₀ l₁ l₂ l₃ l₄ l₅ l₆ l₇ l₈ l₉ l₁₀ l₁₁ l₁₂ len))))))))))))))))
+      fsplit ! $ drop ! $ last-list ! (λ len. move ! (1 ∷ []) $ drop ! $ fills r (ws .1 .0) (subst (Is Cd.the-row r) (LL.tells Cd.the-type Cd′.the-laws r _ is) is) met 𝓣 known-fill l₀ l₁ l₂ l₃ l₄ l₅ l₆ l₇ l₈ l₉ l₁₀ l₁₁ l₁₂ len))))))))))))))))
 
 module _ {M : Type 1} (𝓤 : URA M) (H : Heap 𝓤) (A : Atoms 𝓤) (W : Given 𝓤 H A) (mem : Memory → SProp 𝓤) (run : Routine → Fun 𝓤) (𝓣 : Tables 𝓤 H)
     (known-run : Triple 𝓤 (𝓣 .C #planner·run) (Run 𝓤 H A mem run)) (known-fill : Triple 𝓤 (𝓣 .C #planner·fill) (Fill 𝓤 H A mem run)) where
