@@ -17,7 +17,8 @@ use Rattle.layout.specs.Change.{oneMore, oneFewer}
 use Rattle.layout.proofs.Theorems.{layout-has-counts}
 use Rattle.table.specs.Table.{nodeAt, occupied, countsOf, in-order?, InOrder}
 use Rattle.table.specs.Pairing.{moved, movesOf}
-use Rattle.table.proofs.Order.{in-order-iff, in-order-counts, occupied-in-tree}
+use Rattle.table.proofs.Occupied.{occupied-within}
+use Rattle.table.proofs.Order.{in-order-iff, in-order-counts}
 use Rattle.table.proofs.Moved.{Movable, moved-nothing, moved-level, moved-holds, moved-stays}
 use Rattle.table.proofs.Newcomer.{granted-newcomer, granted-others, newcomer-level, newcomer-above-zero}
 use Rattle.table.proofs.Moves.{Moves, moves-in-list, move-of, one-move-each}
@@ -82,7 +83,7 @@ module _ {h : ℕ} {N : Nodes} {T₁ : List ℕ} (M : Movable h N T₁) (T : Lis
 
   settled : Settled h t T o
   settled = record {
-    within = occupied-in-tree h (o .table) (order .in-tree);
+    within = occupied-within h (o .table) (order .in-tree);
     legal = order .legal;
     safe = order .safe;
     stays = λ u ne p q. after u ne ∙ moved-stays M u (rw (before u ne) (sym (occupies (nodeAt T u)) ∙ q)) ∙ before u ne;

@@ -18,7 +18,8 @@ use Rattle.layout.specs.Change.{oneMore}
 use Rattle.layout.proofs.Theorems.{layout-in-tree, layout-is-legal, layout-has-counts, legal-set-fits, safe-set-is-layout}
 use Rattle.table.specs.Table.{nodeAt, occupied, InOrder, tenantsAt, countsOf}
 use Rattle.table.proofs.Tally.{tally-by-tenants}
-use Rattle.table.proofs.Order.{counts-length, occupied-in-tree, tenants-are-sizes, in-order-counts, in-order-fits, in-order-is-layout, in-order-iff}
+use Rattle.table.proofs.Occupied.{occupied-within}
+use Rattle.table.proofs.Order.{counts-length, tenants-are-sizes, in-order-counts, in-order-fits, in-order-is-layout, in-order-iff}
 use Rattle.calls.specs.Call.{Call, grant-level, grant-pages, release, tenantOf}
 use Rattle.calls.specs.Step.{first, validity, holdings, grant-holdings, step}
 use Rattle.calls.specs.History.{Book, at-level, held}
@@ -45,7 +46,7 @@ module _ (h : ℕ) (T : List ℕ) (B : Book) (K : Kept h T B) where
   sound = record { height = K .height; entries = K .entries; in-order = in-order-iff h T (K .height) .1 (K .in-order) }
 
   pub within : Within h (occupied T)
-  within = occupied-in-tree h T (K .in-order .in-tree)
+  within = occupied-within h T (K .in-order .in-tree)
 
   pub held-is-size : (l : ℕ) → sizes h (occupied T) l ≡ held B l
   unfolding tenantsAt held

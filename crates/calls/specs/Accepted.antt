@@ -22,6 +22,7 @@ pub record Shifted (t : ℕ) (T T′ : List ℕ) (m : Move) : Type 0 where
   pub has-one : 0 < m .to
   pub differ : ¬ (m .from ≡ m .to)
 
+-- what stands for a move past the end of a list
 abbrev pub nobody : Move
 nobody = record { tenant = 0; from = 0; to = 0 }
 
@@ -61,6 +62,7 @@ pub record AfterRelease (h : ℕ) (T : List ℕ) (t : ℕ) (o : Outcome) : Type 
   pub a-node : 0 < o .node
   pub struck-out : nodeAt (o .table) t ≡ 0
 
+-- demand 2: what an accepted call c does to the table T at height h
 pub record Demand2 (h : ℕ) (T : List ℕ) (c : Call) : Type 0 where
   pub grant : (l : ℕ) → Asks c l → step h T c .answer ≡ 0 → AfterGrant h T (tenantOf c) l (step h T c)
   pub release : Releases c → step h T c .answer ≡ 0 → AfterRelease h T (tenantOf c) (step h T c)

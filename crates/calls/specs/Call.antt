@@ -18,6 +18,7 @@ leastFrom l (suc n) p = cond (leb p (2 ^ l)) l (leastFrom (suc l) n p)
 unfoldable pub levelFor : ℕ → ℕ
 levelFor p = leastFrom 0 p p
 
+-- the tenant that a call names
 abbrev pub tenantOf : Call → ℕ
 tenantOf (grant-level t l m) = t
 tenantOf (grant-pages t p m) = t

@@ -29,14 +29,17 @@ pub record GrantPlannable (h : ℕ) (cs : List ℕ) (l : ℕ) (owners : List ℕ
   pub new-fits : pages (oneMore cs l) ≤ 4096
   pub plannable : Plannable h (rowsOf cs) (rowsOf (oneMore cs l)) 0 owners
 
+-- what the planner then gives: the moves, and the newcomer's node
 abbrev pub GrantPlanned : ℕ → List ℕ → ℕ → List ℕ → Planned → Type 0
 GrantPlanned h cs l owners r = AllPlanned h (rowsOf cs) (rowsOf (oneMore cs l)) 0 l owners r
 
+-- the same for the release of node n
 pub record ReleasePlannable (h : ℕ) (cs : List ℕ) (n : ℕ) (owners : List ℕ) : Type 0 where
   pub old-fits : pages cs ≤ 4096
   pub new-fits : pages (oneFewer cs (level h n)) ≤ 4096
   pub plannable : Plannable h (rowsOf cs) (rowsOf (oneFewer cs (level h n))) n owners
 
+-- what the planner then gives: the moves; level 13 stands for no newcomer
 abbrev pub ReleasePlanned : ℕ → List ℕ → ℕ → List ℕ → Planned → Type 0
 ReleasePlanned h cs n owners r = AllPlanned h (rowsOf cs) (rowsOf (oneFewer cs (level h n))) n 13 owners r
 

@@ -23,6 +23,7 @@ pub data Asks : Call → ℕ → Type 0 where
   by-level : {t l m : ℕ} → Asks (grant-level t l m) l
   by-pages : {t p m : ℕ} → Asks (grant-pages t p m) (levelFor p)
 
+-- c is a release
 pub data Releases : Call → Type 0 where
   releases : {t m : ℕ} → Releases (release t m)
 
@@ -74,5 +75,6 @@ pub record Boxes (h : ℕ) (T₁ T₂ : List ℕ) (B₁ B₂ : Book) : Type 0 wh
   pub same-fate : ((l : ℕ) → held B₁ l ≡ held B₂ l) → (c₁ c₂ : Call) (l : ℕ) → Asks c₁ l → Asks c₂ l → Valid h c₁ → Valid h c₂
       → B₁ (tenantOf c₁) ≡ none → B₂ (tenantOf c₂) ≡ none → SameFate h B₁ l (step h T₁ c₁) (step h T₂ c₂)
 
+-- demand 3: what holds of the tables and the books after any two histories of one height
 abbrev pub Demand3 : (h : ℕ) → History h → History h → Type 0
 Demand3 h H₁ H₂ = Boxes h (tableAfter h H₁) (tableAfter h H₂) (bookAfter h H₁) (bookAfter h H₂)

@@ -24,6 +24,7 @@ unfoldable pub answersFrom : ℕ → List ℕ → List Call → List ℕ
 answersFrom h T [] = []
 answersFrom h T (c ∷ cs) = step h T c .answer ∷ answersFrom h (step h T c .table) cs
 
+-- the table and the numbers of a whole history
 abbrev pub tableAfter : (h : ℕ) → History h → List ℕ
 tableAfter h H = tableFrom h (open-reserve h (H .lent) .table) (H .calls)
 
@@ -35,6 +36,7 @@ answersOf h H = answersFrom h (open-reserve h (H .lent) .table) (H .calls)
 abbrev pub Book : Type 0
 Book = ℕ → Option ℕ
 
+-- the book with another entry for tenant t
 abbrev pub write : ℕ → Option ℕ → Book → Book
 write t e B u = cond (eqb u t) e (B u)
 
@@ -45,6 +47,7 @@ enter (grant-level t l m) zero B = write t (some l) B
 enter (grant-pages t p m) zero B = write t (some (levelFor p)) B
 enter (release t m) zero B = write t none B
 
+-- the book after some calls, fed each one's arguments and the number that it answered
 unfoldable pub bookFrom : Book → List Call → List ℕ → Book
 bookFrom B [] as′ = B
 bookFrom B (c ∷ cs) [] = B
@@ -54,6 +57,7 @@ bookFrom B (c ∷ cs) (a ∷ as′) = bookFrom (enter c a B) cs as′
 abbrev pub bookAfter : (h : ℕ) → History h → Book
 bookAfter h H = bookFrom (λ t. none) (H .calls) (answersOf h H)
 
+-- whether an entry of the book is level l
 abbrev pub at-level : Option ℕ → ℕ → Bool
 at-level none l = false
 at-level (some k) l = eqb k l

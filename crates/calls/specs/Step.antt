@@ -64,6 +64,7 @@ holdings h T (grant-level t l m) = grant-holdings h T t l
 holdings h T (grant-pages t p m) = grant-holdings h T t (levelFor p)
 holdings h T (release t m) = check 9 (eqb (nodeAt T t) 0) ∷ []
 
+-- all of them, place by place
 abbrev pub checks : ℕ → List ℕ → Call → List Check
 checks h T c = reserve-checks h T ++ validity h c ++ check 7 (not (in-order? h T)) ∷ holdings h T c
 
@@ -87,11 +88,13 @@ released h T N t = record {
   table = moved h N (set T t 0);
 }
 
+-- what an accepted call does: the counts with one more or one fewer decide the new set
 abbrev pub accepted : ℕ → List ℕ → Call → Outcome
 accepted h T (grant-level t l m) = granted h T (layoutSet h (oneMore (countsOf h T) l)) t l
 accepted h T (grant-pages t p m) = granted h T (layoutSet h (oneMore (countsOf h T) (levelFor p))) t (levelFor p)
 accepted h T (release t m) = released h T (layoutSet h (oneFewer (countsOf h T) (level h (nodeAt T t)))) t
 
+-- the refusal with this number, or what is done where it is 0
 abbrev pub unless : ℕ → List ℕ → Outcome → Outcome
 unless zero T done = done
 unless (suc n) T done = refused (suc n) T

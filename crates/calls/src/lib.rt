@@ -4,7 +4,7 @@ ghost use mathlib.Core.List.{List};
 ghost use Prim.Native.Nat.{ℕ, _≤_};
 ghost use Rattle.calls.specs.Step.{open-reserve, refused as refusal, step};
 ghost use Rattle.calls.specs.Call.{grant-level, grant-pages, release as release-by};
-ghost use Rattle.calls.specs.Value.{answered, valueOf};
+ghost use Rattle.calls.specs.Value.{numberOf, nodeIn, answered, valueOf};
 use table::plan::Plan;
 
 mod carry;
@@ -17,6 +17,28 @@ pub mod request;
 pub enum Answer {
     Done { node: u16 },
     Refused { number: u16 },
+}
+
+impl Answer {
+    // 0 for done, else the refusal's number.
+    pub fn number(self) -> u16
+        ensures { λ r. ⌜ r ≡ numberOf self ⌝ }
+    {
+        match self {
+            Answer::Done { node: _ } => 0,
+            Answer::Refused { number } => number,
+        }
+    }
+
+    // The node that the answer names; 0 for a refusal.
+    pub fn node(self) -> u16
+        ensures { λ r. ⌜ r ≡ nodeIn self ⌝ }
+    {
+        match self {
+            Answer::Done { node } => node,
+            Answer::Refused { number: _ } => 0,
+        }
+    }
 }
 
 // What a grant or a release reports: its answer, and the moves that it made.

@@ -1,13 +1,13 @@
 -- Two lists of blocks read side by side, and how many blocks of each are not in the other.
 use mathlib.Core.Path.{refl}
-use mathlib.Core.Bool.{Bool, true, false, not}
+use mathlib.Core.Bool.{Bool, true, false, not, _||_}
 use mathlib.Core.List.{List, [], _∷_, _++_}
 use Prim.Native.Nat.{ℕ, suc, _≤_, zero-le}
 use native.Mathlib.Omega.{arith}
 use borrow.Author.Tests.{eq-eqb}
 use Rattle.tree.specs.Held.{one-if}
 use Rattle.tree.specs.Block.{Block}
-use Rattle.layout.specs.Layout.{among, same-block, either}
+use Rattle.layout.specs.Layout.{among, same-block}
 use Rattle.layout.specs.Change.{missing}
 
 -- ys comes from xs by leaving out at most m blocks and putting in at most n, so it gives a bound on what is missing in either
@@ -41,7 +41,7 @@ one-if-at-most : (t : Bool) → one-if t ≤ 1
 one-if-at-most true = omega arith
 one-if-at-most false = omega arith
 
-fewer-with-either : (s t : Bool) → one-if (not (either s t)) ≤ one-if (not t)
+fewer-with-either : (s t : Bool) → one-if (not (s || t)) ≤ one-if (not t)
 fewer-with-either true t = zero-le
 fewer-with-either false t = omega arith
 

@@ -1,5 +1,6 @@
 -- The k-th node of a level in the layout of given counts, by the rows.
 use mathlib.Core.Path.{_≡_, sym, ap, _∙_}
+use mathlib.Core.Bool.{and-false}
 use mathlib.Core.List.{List, map}
 use Prim.Native.Nat.{ℕ, _-_, _^_, _≤_, _<_}
 use native.Mathlib.Decide.{decLt}
@@ -12,7 +13,7 @@ use Rattle.layout.specs.Layout.{block, layout, pages}
 use Rattle.layout.specs.Rows.{no-index, rowsOf, indexAt, kthNode, atLevel, expectedNode}
 use Rattle.layout.proofs.Within.{layout-within}
 use Rattle.layout.proofs.Bounds.{power-le-4096}
-use Rattle.layout.proofs.RowCases.{both-false, getD-inside, no-node-past, node-inside}
+use Rattle.layout.proofs.RowCases.{getD-inside, no-node-past, node-inside}
 use Rattle.layout.proofs.Rows.{row-length, row-kth, row-past, kth-in-layout}
 
 pub none-expected-too-high : (cs : List ℕ) (h l k : ℕ) → 12 < h → expectedNode cs h l k ≡ 0
@@ -21,7 +22,7 @@ none-expected-too-high cs h l k q = rw (lt-leb h 12 q)
 
 pub none-expected-no-room : (cs : List ℕ) (h l k : ℕ) → 2 ^ h < pages cs → expectedNode cs h l k ≡ 0
 unfolding expectedNode
-none-expected-no-room cs h l k q = rw (lt-leb (pages cs) (2 ^ h) q, both-false)
+none-expected-no-room cs h l k q = rw (lt-leb (pages cs) (2 ^ h) q, and-false)
 
 module _ (cs : List ℕ) (h l : ℕ) (low : h ≤ 12) (fits : pages cs ≤ 2 ^ h) where
   -- the k-th block lies in the tree, so it has a number there

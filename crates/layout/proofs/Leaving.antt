@@ -1,6 +1,6 @@
 -- The bounds on what changes between two layouts, for sets of nodes: at most three nodes leave with one more block, at most four with one fewer.
 use mathlib.Core.Path.{_≡_, refl, sym, ap, ap₂, _∙_}
-use mathlib.Core.Bool.{Bool, true, false, not, _&&_, false≢true}
+use mathlib.Core.Bool.{Bool, true, false, not, _&&_, false≢true, _||_}
 use mathlib.Core.List.{List, [], _∷_}
 use mathlib.Core.Logic.{_⊎_, inl, inr}
 use Prim.Native.Nat.{ℕ, zero, suc, _+_, _^_, _≤_, _<_}
@@ -9,24 +9,24 @@ use borrow.Author.Tests.{eqb-true, eq-eqb}
 use lib.Dec.{eqb, ltb}
 use lib.ListN.{length}
 use Rattle.tree.specs.Node.{InTree}
-use Rattle.tree.specs.Held.{Nodes, Held, count, one-if, both}
+use Rattle.tree.specs.Held.{Nodes, Held, count, one-if}
 use Rattle.tree.specs.Block.{Block, Blocks, blockOf, node, nodesOf}
 use Rattle.tree.proofs.Coordinates.{node-of-block}
 use Rattle.tree.proofs.Sets.{both-left, both-right, nodes-of-in-tree}
 use Rattle.tree.proofs.Count.{passes-first, fails-second, passes-only-first}
 use Rattle.tree.proofs.Sum.{count-le-one, count-of-none}
-use Rattle.layout.specs.Layout.{layout, among, same-block, either}
+use Rattle.layout.specs.Layout.{layout, among, same-block}
 use Rattle.layout.specs.Change.{oneMore, missing, mostByGrant, mostByRelease}
 use Rattle.layout.specs.Set.{layoutSet}
 use Rattle.layout.specs.Leaving.{leaving}
 use Rattle.layout.proofs.Members.{same-block-eq}
 use Rattle.layout.proofs.Moves.{grant-moves-at-most-3, release-moves-at-most-4}
 
-either-left : (a b : Bool) → a ≡ true → either a b ≡ true
+either-left : (a b : Bool) → a ≡ true → (a || b) ≡ true
 either-left true b p = refl
 either-left false b p = absurd (false≢true p)
 
-either-right : (a b : Bool) → b ≡ true → either a b ≡ true
+either-right : (a b : Bool) → b ≡ true → (a || b) ≡ true
 either-right true b p = refl
 either-right false b p = p
 
@@ -39,12 +39,12 @@ count-mono (suc n) p q f = omega (arith, one-if-mono (p n) (q n) (f n), count-mo
     one-if-mono true b g = rw (g refl) (omega arith)
     one-if-mono false b g = omega arith
 
-count-either : (n : ℕ) (p q : ℕ → Bool) → count n (λ k. either (p k) (q k)) ≤ count n p + count n q
+count-either : (n : ℕ) (p q : ℕ → Bool) → count n (λ k. p k || q k) ≤ count n p + count n q
 unfolding count
 count-either zero p q = omega arith
 count-either (suc n) p q = omega (arith, one-if-either (p n) (q n), count-either n p q)
   where
-    one-if-either : (a b : Bool) → one-if (either a b) ≤ one-if a + one-if b
+    one-if-either : (a b : Bool) → one-if (a || b) ≤ one-if a + one-if b
     one-if-either true b = omega arith
     one-if-either false b = omega arith
 
@@ -60,11 +60,11 @@ record Lost (h : ℕ) (xs : List Block) (B : Blocks) (n : ℕ) : Type 0 where
 lost-is : (h : ℕ) (xs : List Block) (B : Blocks) (n : ℕ) → lost h xs B n ≡ true → Lost h xs B n
 lost-is h xs B n e =
     let p : nodesOf h (among xs) n ≡ true = passes-first (nodesOf h (among xs) n) (nodesOf h B n) e in
-    let tree = both (ltb 0 n) (ltb n (2 ^ suc h)) in
+    let tree = (ltb 0 n && ltb n (2 ^ suc h)) in
     record {
       in-tree = nodes-of-in-tree h (among xs) n p;
       listed = both-right tree (among xs (blockOf h n)) p;
-      not-held = λ q. fails-second (nodesOf h (among xs) n) (nodesOf h B n) e (ap₂ both (both-left tree (among xs (blockOf h n)) p) q);
+      not-held = λ q. fails-second (nodesOf h (among xs) n) (nodesOf h B n) e (ap₂ _&&_ (both-left tree (among xs (blockOf h n)) p) q);
     }
 
 -- the node of x, where B does not hold x: at most one number
@@ -83,23 +83,23 @@ count-lost-at h x B = go (B x) refl
 
 -- a lost node of a longer list is the first block's, or lost from the rest
 lost-cons : (h : ℕ) (x : Block) (xs : List Block) (B : Blocks) (n : ℕ) → lost h (x ∷ xs) B n ≡ true
-    → either (lost-at h x B n) (lost h xs B n) ≡ true
+    → (lost-at h x B n || lost h xs B n) ≡ true
 lost-cons h x xs B n e = go (same-block x (blockOf h n)) refl
   where
     w : Lost h (x ∷ xs) B n
     w = lost-is h (x ∷ xs) B n e
 
-    go : (t : Bool) → same-block x (blockOf h n) ≡ t → either (lost-at h x B n) (lost h xs B n) ≡ true
+    go : (t : Bool) → same-block x (blockOf h n) ≡ t → (lost-at h x B n || lost h xs B n) ≡ true
     go true p =
         let x-is = same-block-eq x (blockOf h n) p in
         let at = eq-eqb (node h x) n (ap (node h) x-is ∙ node-of-block h n (w .in-tree)) in
         either-left (lost-at h x B n) (lost h xs B n)
         (passes-only-first (eqb (node h x) n) (B x) at (λ q. w .not-held (ap B (sym x-is) ∙ q)))
     go false p =
-        either-right (lost-at h x B n) (lost h xs B n) (ap (λ (t : Bool). both (both tree (either t (among xs (blockOf h n)))) (not (nodesOf h B n))) (sym p) ∙ e)
+        either-right (lost-at h x B n) (lost h xs B n) (ap (λ (t : Bool). (tree && (t || among xs (blockOf h n))) && not (nodesOf h B n)) (sym p) ∙ e)
       where
         tree : Bool
-        tree = both (ltb 0 n) (ltb n (2 ^ suc h))
+        tree = ltb 0 n && ltb n (2 ^ suc h)
 
 lost-at-most : (h : ℕ) (xs : List Block) (B : Blocks) → count (2 ^ suc h) (lost h xs B) ≤ missing xs B
 unfolding missing
@@ -107,7 +107,7 @@ lost-at-most h [] B = omega (arith, count-of-none (2 ^ suc h) (lost h [] B) (λ 
 lost-at-most h (x ∷ xs) B =
     omega (
       arith,
-      count-mono (2 ^ suc h) (lost h (x ∷ xs) B) (λ n. either (lost-at h x B n) (lost h xs B n)) (lost-cons h x xs B),
+      count-mono (2 ^ suc h) (lost h (x ∷ xs) B) (λ n. lost-at h x B n || lost h xs B n) (lost-cons h x xs B),
       count-either (2 ^ suc h) (lost-at h x B) (lost h xs B),
       count-lost-at h x B,
       lost-at-most h xs B,

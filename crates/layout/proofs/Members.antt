@@ -1,6 +1,6 @@
 -- Membership in a list of blocks: what `among` tests, and which blocks the parts of a layout's list hold.
 use mathlib.Core.Path.{_≡_, refl, sym, ap₂, ap, _∙_}
-use mathlib.Core.Bool.{Bool, true, false, false≢true}
+use mathlib.Core.Bool.{Bool, true, false, false≢true, _&&_, _||_, or-true, and-eq-true-iff}
 use mathlib.Core.Logic.{_⊎_, inl, inr}
 use mathlib.Core.List.{List, [], _∷_, _++_}
 pub use mathlib.Core.List.{List·Memᴰ as Member, List·Memᴰ·head as here, List·Memᴰ·tail as later}
@@ -11,9 +11,8 @@ use native.Mathlib.Omega.{arith}
 use native.Mathlib.Decide.{ℕ-discrete}
 use lib.Dec.{eqb}
 use borrow.Author.Tests.{eqb-true, eq-eqb}
-use Rattle.tree.specs.Held.{both}
 use Rattle.tree.specs.Block.{Block, first, past}
-use Rattle.layout.specs.Layout.{State, block, start, running, place, rise, settled, run, layoutFrom, same-block, either, among}
+use Rattle.layout.specs.Layout.{State, block, start, running, place, rise, settled, run, layoutFrom, same-block, among}
 
 -- Equal blocks
 
@@ -31,35 +30,27 @@ same-past e = ap past e
 
 -- Tests
 
-both-parts : (p q : Bool) → both p q ≡ true → (p ≡ true) × (q ≡ true)
-both-parts true q e = (refl, e)
-both-parts false q e = absurd (false≢true e)
-
 pub same-block-eq : (a b : Block) → same-block a b ≡ true → a ≡ b
 same-block-eq a b e =
-    let parts = both-parts (eqb (a .level) (b .level)) (eqb (a .index) (b .index)) e in
+    let parts = and-eq-true-iff (eqb (a .level) (b .level)) (eqb (a .index) (b .index)) .0 e in
     let p : a .level ≡ b .level = eqb-true (a .level) (b .level) (parts .0) in
     let q : a .index ≡ b .index = eqb-true (a .index) (b .index) (parts .1) in
     λ i. record { level = p i; index = q i }
 
 pub eq-same-block : (a b : Block) → a ≡ b → same-block a b ≡ true
-eq-same-block a b e = ap₂ both (eq-eqb (a .level) (b .level) (same-level e)) (eq-eqb (a .index) (b .index) (same-index e))
+eq-same-block a b e = ap₂ _&&_ (eq-eqb (a .level) (b .level) (same-level e)) (eq-eqb (a .index) (b .index) (same-index e))
 
 pub among-member : (xs : List Block) (b : Block) → among xs b ≡ true → Member b xs
 among-member [] b e = absurd (false≢true e)
 among-member (a ∷ xs) b e = go (among-member xs b) (same-block a b) refl e
   where
-    go : (among xs b ≡ true → Member b xs) → (p : Bool) → same-block a b ≡ p → either p (among xs b) ≡ true → Member b (a ∷ xs)
+    go : (among xs b ≡ true → Member b xs) → (p : Bool) → same-block a b ≡ p → (p || among xs b) ≡ true → Member b (a ∷ xs)
     go in-tail true p e = here (sym (same-block-eq a b p))
     go in-tail false p e = later (in-tail e)
 
 pub member-among : {b : Block} {xs : List Block} → Member b xs → among xs b ≡ true
-member-among {b} (here {x = a} {xs = xs} e) = ap (λ (p : Bool). either p (among xs b)) (eq-same-block a b (sym e))
-member-among {b} (later {x = a} {xs = xs} m) = ap (λ (q : Bool). either (same-block a b) q) (member-among m) ∙ either-true (same-block a b)
-  where
-    either-true : (p : Bool) → either p true ≡ true
-    either-true true = refl
-    either-true false = refl
+member-among {b} (here {x = a} {xs = xs} e) = ap (λ (p : Bool). p || among xs b) (eq-same-block a b (sym e))
+member-among {b} (later {x = a} {xs = xs} m) = ap (λ (q : Bool). same-block a b || q) (member-among m) ∙ or-true (same-block a b)
 
 -- Parts of a layout
 

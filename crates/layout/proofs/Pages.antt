@@ -6,13 +6,8 @@ use native.Mathlib.Nat.{add-zero, zero-add, zero-mul, add-suc, suc-add, le-max-l
 use native.Mathlib.Omega.{arith}
 use lib.ListN.{length, getD, List·getD-eq-default}
 use Rattle.tree.specs.Pages.{sum, pagesOf}
-use Rattle.tree.proofs.Sum.{sum-cong, sum-split, sum-stops}
+use Rattle.tree.proofs.Sum.{sum-cong, sum-first, sum-split, sum-stops}
 use Rattle.layout.specs.Layout.{pages, pagesFrom}
-
-pub sum-first : (n : ℕ) (f : ℕ → ℕ) → sum (suc n) f ≡ f 0 + sum n (λ i. f (suc i))
-unfolding sum
-sum-first zero f = refl
-sum-first (suc n) f = omega (arith, sum-first n f)
 
 pages-from-sum : (l : ℕ) (cs : List ℕ) → pagesFrom l cs ≡ sum (length cs) (λ i. getD cs i 0 * 2 ^ (l + i))
 unfolding sum

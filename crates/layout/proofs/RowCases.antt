@@ -1,6 +1,6 @@
 -- What the functions on rows answer, case by case.
 use mathlib.Core.Path.{_≡_, refl}
-use mathlib.Core.Bool.{Bool, true, false}
+use mathlib.Core.Bool.{Bool, true, false, _&&_, and-false}
 use mathlib.Core.List.{List, [], _∷_}
 use Prim.Native.Nat.{ℕ, zero, suc, _-_, _^_, _≤_, _<_}
 use native.Mathlib.Omega.{arith}
@@ -9,16 +9,11 @@ use lib.Dec.{leb}
 use lib.ListN.{length, getD}
 use lib.Pow.{pow-mono}
 use Rattle.tree.specs.Node.{depth}
-use Rattle.tree.specs.Held.{both}
 use Rattle.tree.specs.Block.{node}
 use Rattle.tree.proofs.Highest.{depth-highest}
 use Rattle.layout.specs.Layout.{block}
 use Rattle.layout.specs.Rows.{no-index, inRow, holdsNode, kthIndex, indexAt, nodeOrZero}
 use Rattle.layout.specs.declared.Layout.{Layout}
-
-pub both-false : (p : Bool) → both p false ≡ false
-both-false true = refl
-both-false false = refl
 
 -- inside a list it makes no difference what stands for an element past its end
 pub getD-inside : (xs : List ℕ) (i d e : ℕ) → i < length xs → getD xs i d ≡ getD xs i e
@@ -34,13 +29,13 @@ not-held-too-high L h n q = rw (lt-leb h 12 q)
 
 pub not-held-zero : (L : Layout) (h n : ℕ) → n ≡ 0 → holdsNode L h n ≡ false
 unfolding holdsNode
-not-held-zero L h n e = rw (le-ltb 0 n (omega arith)) (both-false (leb h 12))
+not-held-zero L h n e = rw (le-ltb 0 n (omega arith)) (and-false (leb h 12))
 
 pub not-held-too-deep : (L : Layout) (h n : ℕ) → 0 < n → h < depth n → holdsNode L h n ≡ false
 unfolding holdsNode
 not-held-too-deep L h n p q =
     let past : 2 ^ suc h ≤ 2 ^ depth n = pow-mono q in
-    rw (le-ltb n (2 ^ suc h) (omega (arith, depth-highest n p .low)), both-false) (both-false (leb h 12))
+    rw (le-ltb n (2 ^ suc h) (omega (arith, depth-highest n p .low)), and-false) (and-false (leb h 12))
 
 -- d and w are what a program finds for the node's depth and the first node of that depth
 pub held-by-row : (L : Layout) (h n d w : ℕ) → length (L .lone) ≡ 13 → h ≤ 12 → 0 < n → d ≡ depth n → w ≡ 2 ^ d → d ≤ h
@@ -62,11 +57,11 @@ no-node-too-high h l i q = rw (lt-leb h 12 q)
 
 pub no-node-above-root : (h l i : ℕ) → h < l → nodeOrZero h l i ≡ 0
 unfolding nodeOrZero
-no-node-above-root h l i q = rw (lt-leb l h q, both-false)
+no-node-above-root h l i q = rw (lt-leb l h q, and-false)
 
 pub no-node-past : (h l i : ℕ) → 2 ^ (h - l) ≤ i → nodeOrZero h l i ≡ 0
 unfolding nodeOrZero
-no-node-past h l i q = rw (le-ltb i (2 ^ (h - l)) q, both-false)
+no-node-past h l i q = rw (le-ltb i (2 ^ (h - l)) q, and-false)
 
 pub node-inside : (h l i : ℕ) → h ≤ 12 → l ≤ h → i < 2 ^ (h - l) → nodeOrZero h l i ≡ node h (block l i)
 unfolding nodeOrZero

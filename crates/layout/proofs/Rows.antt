@@ -1,6 +1,6 @@
 -- The rows of the layout of given counts hold its blocks, level by level and left to right, and no others.
 use mathlib.Core.Path.{_≡_, refl, sym, ap, ap₂, _∙_}
-use mathlib.Core.Bool.{Bool, true, false, cond}
+use mathlib.Core.Bool.{Bool, true, false, cond, _&&_, _||_, or-assoc, or-false}
 use mathlib.Core.Logic.{_⊎_, inl, inr}
 use mathlib.Core.List.{List, [], _∷_, _++_, map, map-append, append-nil, Memᴰ·append-right as member-append-right}
 use Prim.Native.Nat.{ℕ, zero, suc, _+_, _*_, _^_, _≤_, _<_}
@@ -12,10 +12,9 @@ use lib.Dec.{eqb, leb, ltb}
 use lib.ListN.{length, getD, length-append, List·getD-append}
 use lib.Seq.{getD-at}
 use lib.Pow.{pow-pos}
-use Rattle.tree.specs.Held.{both}
 use Rattle.tree.specs.Block.{Block, blockOf}
 use Rattle.tree.proofs.Sets.{both-left, both-right}
-use Rattle.layout.specs.Layout.{block, run, layout, same-block, either, among, pages}
+use Rattle.layout.specs.Layout.{block, run, layout, same-block, among, pages}
 use Rattle.layout.specs.Runs.{starts, runs}
 use Rattle.layout.specs.Set.{layoutSet}
 use Rattle.layout.specs.Rows.{no-index, lones, rowsOf, startAt, runAt, loneAt, inRow, rowsHold, holdsNode, kthIndex, indexAt, upFrom, rowIndices, atLevel}
@@ -26,18 +25,10 @@ use Rattle.layout.proofs.Bounds.{power-le-4096}
 
 -- Membership
 
-either-assoc : (p q r : Bool) → either (either p q) r ≡ either p (either q r)
-either-assoc true q r = refl
-either-assoc false q r = refl
-
-either-false : (p : Bool) → either p false ≡ p
-either-false true = refl
-either-false false = refl
-
-among-append : (xs ys : List Block) (b : Block) → among (xs ++ ys) b ≡ either (among xs b) (among ys b)
+among-append : (xs ys : List Block) (b : Block) → among (xs ++ ys) b ≡ (among xs b || among ys b)
 among-append [] ys b = refl
 among-append (x ∷ xs) ys b =
-    ap (either (same-block x b)) (among-append xs ys b) ∙ sym (either-assoc (same-block x b) (among xs b) (among ys b))
+    ap (λ (p : Bool). same-block x b || p) (among-append xs ys b) ∙ sym (or-assoc (same-block x b) (among xs b) (among ys b))
 
 -- a block is in the list exactly if it is among those of its level
 among-at-level : (m i : ℕ) (bs : List Block) → among (atLevel m bs) (block m i) ≡ among bs (block m i)
@@ -45,7 +36,7 @@ among-at-level m i [] = refl
 among-at-level m i (b ∷ bs) = go (eqb (b .level) m) refl (among-at-level m i bs)
   where
     go : (p : Bool) → eqb (b .level) m ≡ p → among (atLevel m bs) (block m i) ≡ among bs (block m i)
-        → among (cond p (b ∷ atLevel m bs) (atLevel m bs)) (block m i) ≡ either (both p (eqb (b .index) i)) (among bs (block m i))
+        → among (cond p (b ∷ atLevel m bs) (atLevel m bs)) (block m i) ≡ ((p && eqb (b .index) i) || among bs (block m i))
     go true e ih = rw (e, ih)
     go false e ih = ih
 
@@ -54,18 +45,18 @@ same-truth true q f g = sym (f refl)
 same-truth false true f g = g refl
 same-truth false false f g = refl
 
-among-run : (m s n i : ℕ) → among (run m s n) (block m i) ≡ both (leb s i) (ltb i (s + n))
-among-run m s n i = same-truth (among (run m s n) (block m i)) (both (leb s i) (ltb i (s + n)))
-    (λ t. let r = run-holds m s n (among-member (run m s n) (block m i) t) in ap₂ both (le-leb s i (r .from)) (lt-ltb i (s + n) (r .to)))
+among-run : (m s n i : ℕ) → among (run m s n) (block m i) ≡ (leb s i && ltb i (s + n))
+among-run m s n i = same-truth (among (run m s n) (block m i)) (leb s i && ltb i (s + n))
+    (λ t. let r = run-holds m s n (among-member (run m s n) (block m i) t) in ap₂ _&&_ (le-leb s i (r .from)) (lt-ltb i (s + n) (r .to)))
     (λ t. member-among (holds-run m s n i
     (leb-true s i (both-left (leb s i) (ltb i (s + n)) t))
     (ltb-true i (s + n) (both-right (leb s i) (ltb i (s + n)) t))))
 
 among-row : {m s n x c : ℕ} {bs : List Block} (i : ℕ) → i < no-index → Row m s n x bs c → inRow s n x i ≡ among bs (block m i)
 among-row {m} {s} {n} {x} i h (run-only e) =
-    rw (among-run, ne-eqb x i (omega arith)) (either-false (both (leb s i) (ltb i (s + n))))
+    rw (among-run, ne-eqb x i (omega arith)) (or-false (leb s i && ltb i (s + n)))
 among-row {m} {s} {n} {x} i h (run-and-lone q) =
-    rw (among-append, among-run, eq-eqb m m refl, either-false)
+    rw (among-append, among-run, eq-eqb m m refl, or-false)
 
 pub row-holds : (cs : List ℕ) (l i : ℕ) → i < no-index → rowsHold (rowsOf cs) (block l i) ≡ among (layout cs) (block l i)
 row-holds cs l i h = among-row i h (row-of-layout cs l) ∙ among-at-level l i (layout cs)
@@ -73,9 +64,9 @@ row-holds cs l i h = among-row i h (row-of-layout cs l) ∙ among-at-level l i (
 -- hence the rows and the layout hold the same nodes of the tree
 pub rows-hold-layout : (h : ℕ) (cs : List ℕ) (n : ℕ) → h ≤ 12 → holdsNode (rowsOf cs) h n ≡ layoutSet h cs n
 unfolding holdsNode
-rows-hold-layout h cs n q = rw (le-leb h 12 q) (go (both (ltb 0 n) (ltb n (2 ^ suc h))) refl)
+rows-hold-layout h cs n q = rw (le-leb h 12 q) (go (ltb 0 n && ltb n (2 ^ suc h)) refl)
   where
-    go : (p : Bool) → both (ltb 0 n) (ltb n (2 ^ suc h)) ≡ p → both p (rowsHold (rowsOf cs) (blockOf h n)) ≡ both p (among (layout cs) (blockOf h n))
+    go : (p : Bool) → (ltb 0 n && ltb n (2 ^ suc h)) ≡ p → (p && rowsHold (rowsOf cs) (blockOf h n)) ≡ (p && among (layout cs) (blockOf h n))
     go true e =
         let below : n < 2 ^ suc h = ltb-true n (2 ^ suc h) (both-right (ltb 0 n) (ltb n (2 ^ suc h)) e) in
         row-holds cs (blockOf h n .level) (blockOf h n .index) (omega (arith, power-le-4096 h q, pow-suc 2 h))

@@ -1,6 +1,6 @@
 -- A layout has as many blocks of each level as the counts say.
 use mathlib.Core.Path.{_≡_, refl, sym, ap, ap₂, _∙_}
-use mathlib.Core.Bool.{Bool, true, false}
+use mathlib.Core.Bool.{Bool, true, false, _||_}
 use mathlib.Core.List.{List, [], _∷_, _++_}
 use Prim.Native.Nat.{ℕ, zero, suc, _+_, _*_, _^_, _≤_, _<_}
 use native.Mathlib.Nat.{add-zero, le-mul-of-pos-right}
@@ -13,7 +13,7 @@ use borrow.Author.Tests.{eq-eqb, ne-eqb}
 use Rattle.tree.specs.Held.{one-if, count}
 use Rattle.tree.specs.Block.{Block, past, bsizes}
 use Rattle.layout.specs.Layout.{State, full, lone, block, start, running, place, rise, run, layoutFrom, layout}
-use Rattle.layout.specs.Layout.{same-block, either, among, pages}
+use Rattle.layout.specs.Layout.{same-block, among, pages}
 use Rattle.layout.proofs.Members.{Member, here, later, among-member, member-among, same-block-eq, same-level, same-index, same-first}
 use Rattle.layout.proofs.States.{Rises, full-rises, lone-rises, lone-settles, rises}
 use Rattle.layout.proofs.Order.{Chain, nil, cons, chain-first, first-below-past, layout-chain}
@@ -118,7 +118,7 @@ false-unless-true true h = absurd (h refl)
 false-unless-true false h = refl
 
 among-other : (b : Block) (bs : List Block) (x : Block) → ¬ (b ≡ x) → among (b ∷ bs) x ≡ among bs x
-among-other b bs x h = ap (λ (p : Bool). either p (among bs x)) (false-unless-true (same-block b x) (λ e. h (same-block-eq b x e)))
+among-other b bs x h = ap (λ (p : Bool). p || among bs x) (false-unless-true (same-block b x) (λ e. h (same-block-eq b x e)))
 
 -- In a chain no block stands twice: what follows b does not hold b.
 chain-once : (b : Block) (bs : List Block) (x : Block) → Chain (past b) bs → x ≡ b → among bs x ≡ false

@@ -10,7 +10,7 @@ use lib.ListN.{length, getD, set, take, drop, replicate, length-set, drop-of-len
 use lib.Seq.{drop-cons, take-suc-set, take-all, append-snoc}
 use lib.Pow.{pow-pos, pow-mono}
 use Rattle.tree.specs.Block.{Block}
-use Rattle.layout.specs.Layout.{State, full, start, running, place, rise, pagesFrom, pages}
+use Rattle.layout.specs.Layout.{State, full, lone, start, running, place, rise, pagesFrom, pages}
 use Rattle.layout.specs.Runs.{startsFrom, runsFrom, starts, runs}
 use Rattle.layout.specs.Rows.{no-index, lones, rowsOf}
 use Rattle.layout.specs.declared.Layout.{Layout}
@@ -42,6 +42,7 @@ pub record Climbed (cs ss ns xs : List ℕ) (s : State) (l : ℕ) : Type 0 where
   pub inside : l ≤ 13
   pub starts-long : length ss ≡ 13
   pub runs-long : length ns ≡ 13
+  pub lones-long : length xs ≡ 13
   pub starts-so-far : take l ss ++ startsFrom l s (drop l cs) ≡ starts cs
   pub runs-so-far : take l ns ++ runsFrom l s (drop l cs) ≡ runs cs
   pub lones-so-far : written l s (drop l cs) xs ≡ lones cs
@@ -56,6 +57,7 @@ climbed-none {cs} e f is-empty =
       inside = omega arith;
       starts-long = refl;
       runs-long = refl;
+      lones-long = refl;
       starts-so-far = refl;
       runs-so-far = refl;
       lones-so-far = rw e at (written-lones cs);
@@ -65,6 +67,10 @@ climbed-none {cs} e f is-empty =
 -- an element is written, and the rest follows it
 row-next : (ss : List ℕ) (l a : ℕ) (rest whole : List ℕ) → l < length ss → take l ss ++ (a ∷ rest) ≡ whole → take (suc l) (set ss l a) ++ rest ≡ whole
 row-next ss l a rest whole h e = rw (take-suc-set ss l a h, append-snoc) e
+
+mark-length : (s : State) (xs : List ℕ) → length (mark s xs) ≡ length xs
+mark-length (full u) xs = refl
+mark-length (lone v j k) xs = length-set xs j (v * 2 ^ k)
 
 -- A turn in state s: a and n are written at l, ys is the list of lone places with the level's blocks placed, and u the state one level up.
 pub climbed-next : {cs ss ns xs ys : List ℕ} {s t u : State} {l a n : ℕ} → length cs ≡ 13 → l < 13 → Climbed cs ss ns xs s l
@@ -81,6 +87,7 @@ climbed-next {cs} {ss} {ns} {xs} {ys} {s} {t} {u} {l} {a} {n} e h p is-start is-
       inside = h;
       starts-long = length-set ss l (start s) ∙ p .starts-long;
       runs-long = length-set ns l (running s c) ∙ p .runs-long;
+      lones-long = mark-length (place l s c) xs ∙ p .lones-long;
       starts-so-far = row-next ss l (start s) (startsFrom (suc l) next above) (starts cs) (omega (arith, p .starts-long)) (rw d at (p .starts-so-far));
       runs-so-far = row-next ns l (running s c) (runsFrom (suc l) next above) (runs cs) (omega (arith, p .runs-long)) (rw d at (p .runs-so-far));
       lones-so-far = rw d at (p .lones-so-far);

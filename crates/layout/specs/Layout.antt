@@ -1,11 +1,10 @@
 -- The layout of given counts: the blocks from left to right, by the rule that document 01 derives ("Go up from level 0 …").
 -- That it is the one legal and safe set with these counts is proved in proofs/, so no reader has to believe this file.
 use mathlib.Core.Path.{_≡_}
-use mathlib.Core.Bool.{Bool, true, false}
+use mathlib.Core.Bool.{Bool, true, false, _&&_, _||_}
 use mathlib.Core.List.{List, [], _∷_, _++_}
 use Prim.Native.Nat.{ℕ, zero, suc, _+_, _*_, _^_}
 use lib.Dec.{eqb}
-use Rattle.tree.specs.Held.{both}
 use Rattle.tree.specs.Block.{Block, Blocks}
 
 -- A number as twice another, or twice another and one.
@@ -13,6 +12,7 @@ pub data Half : Type 0 where
   even : ℕ → Half
   odd : ℕ → Half
 
+-- the next number so, and every number so
 abbrev pub next-half : Half → Half
 next-half (even w) = odd w
 next-half (odd w) = even (suc w)
@@ -28,6 +28,7 @@ pub data State : Type 0 where
   full : ℕ → State
   lone : ℕ → ℕ → ℕ → State
 
+-- the block of a level with an index
 abbrev pub block : ℕ → ℕ → Block
 block l i = record { level = l; index = i }
 
@@ -48,6 +49,7 @@ place l (full u) zero = full u
 place l (full u) (suc c) = lone (u + c) l 0
 place l (lone v j k) c = lone (v + c) j k
 
+-- one level up two subtrees are one; a lone block whose subtree gets company is lone no longer
 abbrev pub rise-full : Half → State
 rise-full (even w) = full w
 rise-full (odd w) = full (suc w)
@@ -61,6 +63,7 @@ abbrev pub rise : State → State
 rise (full u) = rise-full (half u)
 rise (lone v j k) = rise-lone j k (half v)
 
+-- it stands in the second of the two subtrees
 abbrev pub settle-lone : Block → Half → List Block
 settle-lone b (even w) = []
 settle-lone b (odd w) = b ∷ []
@@ -89,22 +92,20 @@ layoutFrom l s (c ∷ cs) = run l (start s) (running s c) ++ settled (place l s 
 unfoldable pub layout : List ℕ → List Block
 layout cs = layoutFrom 0 (full 0) cs
 
+-- whether two blocks are one
 abbrev pub same-block : Block → Block → Bool
-same-block a b = both (eqb (a .level) (b .level)) (eqb (a .index) (b .index))
-
-abbrev pub either : Bool → Bool → Bool
-either true b = true
-either false b = b
+same-block a b = eqb (a .level) (b .level) && eqb (a .index) (b .index)
 
 -- the list as a set
 abbrev pub among : List Block → Blocks
 among [] b = false
-among (a ∷ as′) b = either (same-block a b) (among as′ b)
+among (a ∷ as′) b = same-block a b || among as′ b
 
 -- the number of pages of the blocks
 abbrev pub pagesFrom : ℕ → List ℕ → ℕ
 pagesFrom l [] = 0
 pagesFrom l (c ∷ cs) = c * 2 ^ l + pagesFrom (suc l) cs
 
+-- of the counts c₀, c₁, …
 unfoldable pub pages : List ℕ → ℕ
 pages cs = pagesFrom 0 cs

@@ -1,13 +1,12 @@
 -- The layout of given counts as rows, one for each level: where the level's run begins, how many blocks the run has, and the index where
 -- the level's last block comes to rest, if that is the one that becomes lone. `proofs/Rows.antt` shows that the rows hold the layout's blocks.
-use mathlib.Core.Bool.{Bool, cond}
+use mathlib.Core.Bool.{Bool, cond, _&&_, _||_}
 use mathlib.Core.List.{List, [], _∷_, _++_, map}
 use Prim.Native.Nat.{ℕ, zero, suc, _+_, _-_, _*_, _^_}
 use lib.Dec.{eqb, leb, ltb}
 use lib.ListN.{getD}
-use Rattle.tree.specs.Held.{both}
 use Rattle.tree.specs.Block.{Block, Blocks, node, nodesOf}
-use Rattle.layout.specs.Layout.{Half, even, odd, half, State, full, lone, block, place, rise, layout, either, pages}
+use Rattle.layout.specs.Layout.{Half, even, odd, half, State, full, lone, block, place, rise, layout, pages}
 use Rattle.layout.specs.Runs.{starts, runs}
 use Rattle.layout.specs.declared.Layout.{Layout}
 
@@ -17,6 +16,7 @@ no-index = 65535
 
 -- Lone blocks
 
+-- by whether a number of subtrees is even or odd
 abbrev pub settles : ℕ → (ℕ → ℕ) → Half → ℕ
 settles here above (even w) = above w
 settles here above (odd w) = here
@@ -38,6 +38,7 @@ abbrev pub lonesFrom : ℕ → State → List ℕ → List ℕ
 lonesFrom l s [] = []
 lonesFrom l s (c ∷ cs) = loneIndex s c cs ∷ lonesFrom (suc l) (rise (place l s c)) cs
 
+-- for all levels
 unfoldable pub lones : List ℕ → List ℕ
 lones cs = lonesFrom 0 (full 0) cs
 
@@ -47,6 +48,7 @@ rowsOf cs = record { start = starts cs; run = runs cs; lone = lones cs }
 
 -- Rows, of any three lists
 
+-- the three numbers of a level
 abbrev pub startAt : Layout → ℕ → ℕ
 startAt L l = getD (L .start) l 0
 
@@ -58,7 +60,7 @@ loneAt L l = getD (L .lone) l no-index
 
 -- i is one of the n indices from s on, or is x
 abbrev pub inRow : ℕ → ℕ → ℕ → ℕ → Bool
-inRow s n x i = either (both (leb s i) (ltb i (s + n))) (eqb x i)
+inRow s n x i = (leb s i && ltb i (s + n)) || eqb x i
 
 -- the rows as a set of blocks
 abbrev pub rowsHold : Layout → Blocks
@@ -66,7 +68,7 @@ rowsHold L b = inRow (startAt L (b .level)) (runAt L (b .level)) (loneAt L (b .l
 
 -- the rows as a set of nodes of a tree whose height is at most 12
 unfoldable pub holdsNode : Layout → ℕ → ℕ → Bool
-holdsNode L h n = both (leb h 12) (nodesOf h (rowsHold L) n)
+holdsNode L h n = leb h 12 && nodesOf h (rowsHold L) n
 
 -- the k-th of the n indices from s on and then x
 abbrev pub kthIndex : ℕ → ℕ → ℕ → ℕ → ℕ
@@ -78,7 +80,7 @@ indexAt L l k = kthIndex (startAt L l) (runAt L l) (loneAt L l) k
 
 -- the node with this index on level l of a tree whose height is at most 12; 0 where there is none
 unfoldable pub nodeOrZero : ℕ → ℕ → ℕ → ℕ
-nodeOrZero h l i = cond (both (both (leb h 12) (leb l h)) (ltb i (2 ^ (h - l)))) (node h (block l i)) 0
+nodeOrZero h l i = cond (leb h 12 && leb l h && ltb i (2 ^ (h - l))) (node h (block l i)) 0
 
 -- the k-th node, left to right, that the row of level l has
 unfoldable pub kthNode : Layout → ℕ → ℕ → ℕ → ℕ
@@ -106,4 +108,4 @@ atLevel l (b ∷ bs) = cond (eqb (b .level) l) (b ∷ atLevel l bs) (atLevel l b
 -- The k-th node of level l, left to right, in the layout of the counts; 0 where the level has no such block, the counts have more pages
 -- than the tree, or the height is above 12.
 unfoldable pub expectedNode : List ℕ → ℕ → ℕ → ℕ → ℕ
-expectedNode cs h l k = cond (both (leb h 12) (leb (pages cs) (2 ^ h))) (getD (map (node h) (atLevel l (layout cs))) k 0) 0
+expectedNode cs h l k = cond (leb h 12 && leb (pages cs) (2 ^ h)) (getD (map (node h) (atLevel l (layout cs))) k 0) 0

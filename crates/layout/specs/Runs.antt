@@ -13,6 +13,7 @@ abbrev pub runsFrom : ℕ → State → List ℕ → List ℕ
 runsFrom l s [] = []
 runsFrom l s (c ∷ cs) = running s c ∷ runsFrom (suc l) (rise (place l s c)) cs
 
+-- both for all levels
 unfoldable pub starts : List ℕ → List ℕ
 starts cs = startsFrom 0 (full 0) cs
 

@@ -5,5 +5,6 @@ use Rattle.tree.specs.Held.{Nodes}
 use Rattle.tree.specs.Block.{nodesOf}
 use Rattle.layout.specs.Layout.{layout, among}
 
+-- the nodes, in a tree of height h, of the layout of the counts
 abbrev pub layoutSet : ℕ → List ℕ → Nodes
 layoutSet h cs = nodesOf h (among (layout cs))

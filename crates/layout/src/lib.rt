@@ -1,7 +1,7 @@
 // Counts of blocks by level, and their layout as one row for each level, from which a node is tested or found in constant time.
 ghost use mathlib.Core.Path.{_≡_};
 ghost use Prim.Native.Nat.{_+_, _*_, _^_, _≤_, _<_};
-ghost use lib.ListN.{replicate};
+ghost use lib.ListN.{length, replicate};
 ghost use Rattle.layout.specs.Layout.{pages, running, place, rise};
 ghost use Rattle.layout.specs.Change.{oneFewer};
 ghost use Rattle.layout.specs.Counts.{more};
@@ -101,8 +101,7 @@ impl Counts {
             start[l] = s.before;
             run[l] = s.running(c);
             s = s.placed(l as u16, c);
-            let marked = s.marked(lone);
-            lone = marked;
+            s.mark_in(&mut lone);
             s = s.risen();
             l += 1;
         }
@@ -249,18 +248,16 @@ impl Climb {
         }
     }
 
-    // The lone places with the lone block's place so far.
-    fn marked(self, lone: [u16; 13]) -> [u16; 13]
-        requires { ⌜ (self .down ≤ 12) × (self .before * 2 ^ self .down < 2 ^ 16) ⌝ }
-        ensures { λ r. ⌜ r ≡ mark (stateOf self) lone ⌝ }
+    // Writes the lone block's place so far among the lone places.
+    fn mark_in(self, lone: &mut [u16; 13])
+        requires { ⌜ (self .down ≤ 12) × (self .before * 2 ^ self .down < 2 ^ 16) × (length (now lone) ≡ 13) ⌝ }
+        ensures { λ _. ⌜ now (lone .exit) ≡ mark (stateOf self) (now (lone .entry)) ⌝ }
     {
-        let mut marked = lone;
         let level = self.level as usize;
         if 13 <= level {
-            return lone;
+            return;
         }
-        marked[level] = self.before * power(self.down);
-        marked
+        lone[level] = self.before * power(self.down);
     }
 
     // The state one level up.

@@ -12,8 +12,7 @@ use lib.ListN.{length, getD, set, drop, length-append, length-drop, List·getD-e
 use lib.Seq.{set-at, drop-cons, append-snoc}
 use lib.Pow.{shr-shr, high}
 use Rattle.tree.specs.Pages.{sum}
-use Rattle.tree.proofs.Sum.{sum-cong}
-use Rattle.layout.proofs.Pages.{sum-first}
+use Rattle.tree.proofs.Sum.{sum-first, sum-cong}
 use Rattle.table.proofs.Tabulate.{tabulate-length, getD-tabulate, tabulate-cong, tabulate-last}
 use Rattle.pagemap.specs.Map.{byteOf, bytesOf}
 

@@ -1,6 +1,6 @@
 -- Laws of ranges of pages: when a page lies in one, and how its flags are set one by one.
 use mathlib.Core.Path.{_≡_, sym, ap, ap₂, _∙_}
-use mathlib.Core.Bool.{Bool, true, cond}
+use mathlib.Core.Bool.{Bool, true, cond, _&&_}
 use mathlib.Core.List.{List}
 use Prim.Native.Nat.{ℕ, suc, _*_, _/_, _≤_, _<_}
 use native.Mathlib.Nat.{zero-add, le-div-iff-mul-le, div-lt-iff-lt-mul}
@@ -9,7 +9,6 @@ use borrow.Author.Tests.{leb-true, le-leb, ltb-true, lt-ltb, eqb-true, eq-eqb}
 use lib.Dec.{leb, ltb, eqb}
 use lib.ListN.{length, getD, set}
 use lib.Seq.{ext-getD}
-use Rattle.tree.specs.Held.{both}
 use Rattle.tree.proofs.Sets.{both-left, both-right}
 use Rattle.tree.proofs.Count.{equal-of-both-ways}
 use Rattle.layout.proofs.Sizes.{false-unless-true}
@@ -23,7 +22,7 @@ pub record Between (a b p : ℕ) : Type 0 where
   pub to : p < b
 
 between-of : (a b p : ℕ) → Between a b p → between a b p ≡ true
-between-of a b p r = ap₂ both (le-leb a p (r .from)) (lt-ltb p b (r .to))
+between-of a b p r = ap₂ _&&_ (le-leb a p (r .from)) (lt-ltb p b (r .to))
 
 of-between : (a b p : ℕ) → between a b p ≡ true → Between a b p
 of-between a b p e =

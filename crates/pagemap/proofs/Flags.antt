@@ -8,7 +8,6 @@ use lib.Dec.{eqb}
 use lib.ListN.{length, getD, replicate, List·getD-eq-default}
 use Rattle.tree.specs.Held.{one-if}
 use Rattle.tree.proofs.Sum.{one-if-le-one}
-use Rattle.layout.specs.Layout.{either}
 use Rattle.layout.specs.Rows.{inRow}
 use Rattle.table.proofs.Tabulate.{tabulate-length, getD-tabulate, tabulate-cong, tabulate-const}
 use Rattle.pagemap.specs.Map.{bytesOf}
@@ -60,7 +59,7 @@ row-filled n w s k x f q =
     ∙ filled-flags n (x * w) (suc x * w) (λ p. between (s * w) ((s + k) * w) p || f p)
     ∙ flags-cong n _ _ in-row
   where
-    regroup : (lone run rest : Bool) → (lone || (run || rest)) ≡ (either run lone || rest)
+    regroup : (lone run rest : Bool) → (lone || (run || rest)) ≡ ((run || lone) || rest)
     regroup true true rest = refl
     regroup true false rest = refl
     regroup false true rest = refl

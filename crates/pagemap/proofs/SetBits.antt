@@ -10,8 +10,7 @@ use lib.ListN.{length, getD, drop, drop-of-length-le}
 use lib.Seq.{drop-cons}
 use Rattle.tree.specs.Held.{one-if, count}
 use Rattle.tree.specs.Pages.{sum}
-use Rattle.tree.proofs.Sum.{sum-cong, sum-split, count-as-sum}
-use Rattle.layout.proofs.Pages.{sum-first}
+use Rattle.tree.proofs.Sum.{sum-first, sum-cong, sum-split, count-as-sum}
 use Rattle.pagemap.specs.Map.{bitOf}
 use Rattle.pagemap.specs.Count.{setBits}
 use Rattle.pagemap.proofs.Bits.{bit, ones-by-bits}

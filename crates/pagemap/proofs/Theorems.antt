@@ -23,7 +23,8 @@ use Rattle.layout.proofs.Bounds.{power-le-4096}
 use Rattle.layout.proofs.Pages.{pages-of-levels}
 use Rattle.layout.proofs.Sizes.{false-unless-true}
 use Rattle.table.specs.Table.{occupied, InOrder, countsOf}
-use Rattle.table.proofs.Order.{occupied-in-tree, in-order-counts}
+use Rattle.table.proofs.Occupied.{occupied-within}
+use Rattle.table.proofs.Order.{in-order-counts}
 use Rattle.calls.proofs.Kept.{count-cong}
 use Rattle.pagemap.specs.Map.{bitOf, covered, HeldOver, pageMap}
 use Rattle.pagemap.specs.Count.{setBits, counted}
@@ -96,7 +97,7 @@ module _ (h : ℕ) (T : List ℕ) (low : h ≤ 12) (o : InOrder h T) where
   pages-held =
       let A = occupied T in
       let B : Blocks = blocksOf h A in
-      let S = set-of-blocks h A (occupied-in-tree h T (o .in-tree)) in
+      let S = set-of-blocks h A (occupied-within h T (o .in-tree)) in
       let sized : (l : ℕ) → bsizes h B l ≡ getD (countsOf h T) l 0 = λ l. sym (sizes-of-blocks h A B S l) ∙ in-order-counts h T low o l in
       pages-covered h B (S .blocks-within) (legal-blocks h A B S (o .legal))
       ∙ sum-cong (suc h) (λ l q. ap (λ (c : ℕ). c * 2 ^ l) (sized l))

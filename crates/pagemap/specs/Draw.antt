@@ -13,6 +13,7 @@ pub record Drawing : Type 0 where
   pub answer : ℕ
   pub map : List ℕ
 
+-- an answer, and the map afterwards
 abbrev pub drawing : ℕ → List ℕ → Drawing
 drawing number m = record { answer = number; map = m }
 

@@ -1,10 +1,10 @@
 -- A number for each page, 1 or 0, from which the map is packed.
-use mathlib.Core.Bool.{Bool, cond}
+use mathlib.Core.Bool.{Bool, cond, _&&_}
 use mathlib.Core.List.{List}
 use Prim.Native.Nat.{ℕ, suc, _+_, _*_}
 use lib.Dec.{leb, ltb}
 use lib.ListN.{length, getD}
-use Rattle.tree.specs.Held.{both, one-if}
+use Rattle.tree.specs.Held.{one-if}
 use Rattle.table.specs.Table.{tabulate}
 
 -- 1 for each of n pages that passes the test
@@ -13,7 +13,7 @@ flags n f = tabulate 0 n (λ p. one-if (f p))
 
 -- p is one of the pages a … b − 1
 abbrev pub between : ℕ → ℕ → ℕ → Bool
-between a b p = both (leb a p) (ltb p b)
+between a b p = leb a p && ltb p b
 
 -- the flags with those of the pages a … b − 1 set
 unfoldable pub filled : ℕ → ℕ → List ℕ → List ℕ

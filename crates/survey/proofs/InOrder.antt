@@ -12,7 +12,8 @@ use Rattle.table.specs.Table.{nodeAt, occupied, InOrder, countsOf}
 use Rattle.table.specs.Owners.{ownersOf, levelCounts}
 use Rattle.table.proofs.Tally.{Once}
 use Rattle.table.proofs.Tabulate.{tabulate-cong}
-use Rattle.table.proofs.Order.{occupied-in-tree, tenants-are-sizes, sizes-are-counts, in-order-fits, in-order-is-layout, in-order-of-layout}
+use Rattle.table.proofs.Occupied.{occupied-within}
+use Rattle.table.proofs.Order.{tenants-are-sizes, sizes-are-counts, in-order-fits, in-order-is-layout, in-order-of-layout}
 use Rattle.table.proofs.Owners.{owned-is-occupied}
 use Rattle.table.proofs.Levels.{level-counts-are-sizes}
 use Rattle.survey.specs.Owned.{owned}
@@ -41,7 +42,7 @@ module _ (h m : ℕ) (T : List ℕ) (low : h ≤ 12) (long : 2 ^ suc h ≤ m) (b
 
       same : (n : ℕ) → layoutSet h cs n ≡ occupied T n
       same =
-          same-of-sizes h (layoutSet h cs) (occupied T) (occupied-in-tree h T below)
+          same-of-sizes h (layoutSet h cs) (occupied T) (occupied-within h T below)
           (λ l. layout-has-counts h cs fits l ∙ sym (sizes-are-counts h T below low once l))
           (λ n e. sym (owned-is-held n (layout-in-tree h cs n e)) ∙ all n e)
 

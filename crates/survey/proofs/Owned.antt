@@ -1,6 +1,6 @@
 -- Every node of a layout has an owner exactly if every node of its rows has one.
 use mathlib.Core.Path.{_≡_, refl, sym, ap, ap₂, _∙_}
-use mathlib.Core.Bool.{Bool, true, false}
+use mathlib.Core.Bool.{Bool, true, false, _&&_, _||_, or-true}
 use mathlib.Core.Logic.{_↔_, ⊎-elim}
 use mathlib.Core.List.{List, [], _∷_}
 use Prim.Native.Nat.{ℕ, suc, _+_, _-_, _^_, _≤_, _<_}
@@ -12,12 +12,11 @@ use lib.ListN.{length, getD, take, drop, length-drop}
 use lib.Seq.{length-take-le, getD-take, getD-drop}
 use lib.Pow.{pow-mono}
 use Rattle.tree.specs.Node.{InTree}
-use Rattle.tree.specs.Held.{both}
 use Rattle.tree.specs.Block.{Block, node, blockOf}
 use Rattle.tree.proofs.Coordinates.{node-of-block}
 use Rattle.tree.proofs.Bridge.{SameSet, held-node, held-block}
 use Rattle.tree.proofs.Sets.{both-left, both-right, set-of-nodes}
-use Rattle.layout.specs.Layout.{block, layout, either, among, pages}
+use Rattle.layout.specs.Layout.{block, layout, among, pages}
 use Rattle.layout.specs.Rows.{no-index, inRow, rowsOf, startAt, runAt, loneAt, rowsHold}
 use Rattle.layout.specs.Set.{layoutSet}
 use Rattle.layout.proofs.Bounds.{power-le-4096}
@@ -71,10 +70,10 @@ module _ (o : List ℕ) (w s n x : ℕ) (inside : w + s + n ≤ length o) (run-i
   unfolding rowOwned
   row-owned-iff = (to, from)
     where
-      to : both (runOwned o (w + s) n) (either (eqb x no-index) (owned o (w + x))) ≡ true → RowOwned o w s n x
-      to e i q r = by-run (both (leb s i) (ltb i (s + n))) refl r
+      to : (runOwned o (w + s) n && (eqb x no-index || owned o (w + x))) ≡ true → RowOwned o w s n x
+      to e i q r = by-run (leb s i && ltb i (s + n)) refl r
         where
-          by-run : (b : Bool) → both (leb s i) (ltb i (s + n)) ≡ b → either b (eqb x i) ≡ true → owned o (w + i) ≡ true
+          by-run : (b : Bool) → (leb s i && ltb i (s + n)) ≡ b → (b || eqb x i) ≡ true → owned o (w + i) ≡ true
           by-run true p t =
               let from-start : s ≤ i = leb-true s i (both-left (leb s i) (ltb i (s + n)) p) in
               let to-end : i < s + n = ltb-true i (s + n) (both-right (leb s i) (ltb i (s + n)) p) in
@@ -83,23 +82,19 @@ module _ (o : List ℕ) (w s n x : ℕ) (inside : w + s + n ≤ length o) (run-i
           by-run false p t =
               let lone-is : x ≡ i = eqb-true x i t in
               let some : ¬ (x ≡ no-index) = omega arith in
-              rw (ne-eqb x no-index some, lone-is) at (both-right (runOwned o (w + s) n) (either (eqb x no-index) (owned o (w + x))) e)
+              rw (ne-eqb x no-index some, lone-is) at (both-right (runOwned o (w + s) n) (eqb x no-index || owned o (w + x)) e)
 
-      from : RowOwned o w s n x → both (runOwned o (w + s) n) (either (eqb x no-index) (owned o (w + x))) ≡ true
-      from all = ap₂ both (run-owned-iff o (w + s) n inside .1 in-run) (by-lone (eqb x no-index) refl)
+      from : RowOwned o w s n x → (runOwned o (w + s) n && (eqb x no-index || owned o (w + x))) ≡ true
+      from all = ap₂ _&&_ (run-owned-iff o (w + s) n inside .1 in-run) (by-lone (eqb x no-index) refl)
         where
           in-run : (k : ℕ) → k < n → owned o (w + s + k) ≡ true
           in-run k q = rw add-assoc (all (s + k) (omega arith) (rw (le-leb s (s + k) (omega arith), lt-ltb (s + k) (s + n) (omega arith))))
 
-          either-right : (b : Bool) → either b true ≡ true
-          either-right true = refl
-          either-right false = refl
-
-          by-lone : (b : Bool) → eqb x no-index ≡ b → either b (owned o (w + x)) ≡ true
+          by-lone : (b : Bool) → eqb x no-index ≡ b → (b || owned o (w + x)) ≡ true
           by-lone true p = refl
           by-lone false p =
               let some : ¬ (x ≡ no-index) = eqb-false x no-index p in
-              all x (omega arith) (rw (eq-eqb x x refl) (either-right (both (leb s x) (ltb x (s + n)))))
+              all x (omega arith) (rw (eq-eqb x x refl) (or-true (leb s x && ltb x (s + n))))
 
 -- ---- all rows
 

@@ -1,11 +1,9 @@
 -- Which nodes of a layout have an owner, in a list of owners by node.
-use mathlib.Core.Bool.{Bool}
+use mathlib.Core.Bool.{Bool, _&&_, _||_}
 use mathlib.Core.List.{List}
 use Prim.Native.Nat.{ℕ, suc, _+_, _-_, _^_}
 use lib.Dec.{eqb, ltb}
 use lib.ListN.{getD, take, drop}
-use Rattle.tree.specs.Held.{both}
-use Rattle.layout.specs.Layout.{either}
 use Rattle.layout.specs.Rows.{no-index, startAt, runAt, loneAt}
 use Rattle.layout.specs.declared.Layout.{Layout}
 use Rattle.table.specs.Table.{all-below}
@@ -21,7 +19,7 @@ runOwned o a n = eqb (usedIn (take n (drop a o))) n
 
 -- each node of a level's row has one; w is the level's first node
 unfoldable pub rowOwned : List ℕ → ℕ → ℕ → ℕ → ℕ → Bool
-rowOwned o w s n x = both (runOwned o (w + s) n) (either (eqb x no-index) (owned o (w + x)))
+rowOwned o w s n x = runOwned o (w + s) n && (eqb x no-index || owned o (w + x))
 
 -- the row of level l in a tree of height h, whose first node is 2^(h−l)
 abbrev pub levelOwned : ℕ → Layout → List ℕ → ℕ → Bool

@@ -14,12 +14,13 @@ use lib.Dec.{eqb}
 use lib.ListN.{length}
 use lib.Pow.{pow-pos, pow-mono}
 use Rattle.tree.specs.Node.{InTree, depth, level}
-use Rattle.tree.specs.Held.{Nodes, Within, both, count, sizes}
+use Rattle.tree.specs.Held.{Nodes, Within, count, sizes}
 use Rattle.tree.proofs.Highest.{Highest, depth-highest, depth-is}
 use Rattle.tree.proofs.Coordinates.{depth-le}
 use Rattle.tree.proofs.Sets.{both-left, both-right}
 use Rattle.tree.proofs.Count.{onlyFirst, differences-of-counts, passes-first, fails-second, passes-only-first}
-use Rattle.table.specs.Pairing.{upFrom, keep, levelNodes, leavers, places}
+use Rattle.layout.specs.Rows.{upFrom}
+use Rattle.table.specs.Pairing.{keep, levelNodes, leavers, places}
 use Rattle.table.proofs.Distinct.{Distinct, length-as-count}
 
 -- ---- upFrom
@@ -153,7 +154,7 @@ module _ (h : ℕ) (A B : Nodes) (l : ℕ) where
 
 -- the test by which `sizes` counts
 abbrev pub atLevel : ℕ → Nodes → ℕ → ℕ → Bool
-atLevel h A l n = both (A n) (eqb (level h n) l)
+atLevel h A l n = A n && eqb (level h n) l
 
 -- as many as there are nodes of level l in A and not in B
 pub leavers-counted : (h : ℕ) (A B : Nodes) → Within h A → (l : ℕ) → l ≤ h

@@ -1,6 +1,6 @@
 -- The least index that is in one row and not in another. Where the two runs are near, such an index is one of four, so four tries find it.
 use mathlib.Core.Path.{_≡_, refl, sym, ap, _∙_}
-use mathlib.Core.Bool.{Bool, true, false, not, _&&_, cond, true≢false, false≢true, and-eq-true-iff}
+use mathlib.Core.Bool.{Bool, true, false, not, _&&_, cond, true≢false, false≢true, and-eq-true-iff, _||_}
 use mathlib.Core.List.{List, [], _∷_}
 use Prim.Native.Nat.{ℕ, zero, suc, _+_, _-_, _≤_, _<_}
 use native.Mathlib.Omega.{arith}
@@ -8,11 +8,9 @@ use native.Mathlib.Decide.{ℕ-discrete, decLt}
 use borrow.Author.Tests.{ltb-true, ltb-false, leb-true, le-leb, ne-eqb, not-true}
 use lib.Dec.{eqb, ltb, leb}
 use lib.ListN.{length, getD}
-use Rattle.tree.specs.Held.{both}
-use Rattle.layout.specs.Layout.{either}
 use Rattle.layout.specs.Runs.{Near}
-use Rattle.layout.specs.Rows.{no-index}
-use Rattle.table.specs.Pairing.{upFrom, keep}
+use Rattle.layout.specs.Rows.{no-index, upFrom}
+use Rattle.table.specs.Pairing.{keep}
 use Rattle.table.specs.Plan.{rowHolds, lastOf, onlyIn, onlyFrom, leastOnly, betterOf}
 use Rattle.table.specs.declared.plan.Row.{Row}
 use Rattle.table.proofs.Distinct.{at-place}
@@ -72,7 +70,7 @@ unfolding rowHolds
 in-run w i e lone = by-tests (leb (w .start) i) refl (ltb i (w .start + w .run)) refl (rw (ne-eqb (w .lone) i (λ f. lone (sym f))) at e)
   where
     by-tests : (b : Bool) → leb (w .start) i ≡ b → (t : Bool) → ltb i (w .start + w .run) ≡ t
-        → (either (both b t) false && not (eqb i (w .hole))) ≡ true → (w .start ≤ i) × (i < w .start + w .run)
+        → (((b && t) || false) && not (eqb i (w .hole))) ≡ true → (w .start ≤ i) × (i < w .start + w .run)
     by-tests true f true g e′ = (leb-true (w .start) i f, ltb-true i (w .start + w .run) g)
     by-tests true f false g e′ = absurd (false≢true e′)
     by-tests false f t g e′ = absurd (false≢true e′)
@@ -82,7 +80,7 @@ not-in-run : (w : Row) (i : ℕ) → rowHolds w i ≡ false → ¬ (i ≡ w .hol
 unfolding rowHolds
 not-in-run w i e hole q = by-test (ltb i (w .start + w .run)) refl (rw (ne-eqb i (w .hole) hole, le-leb (w .start) i q) at e)
   where
-    by-test : (t : Bool) → ltb i (w .start + w .run) ≡ t → (either t (eqb (w .lone) i) && true) ≡ false → w .start + w .run ≤ i
+    by-test : (t : Bool) → ltb i (w .start + w .run) ≡ t → ((t || eqb (w .lone) i) && true) ≡ false → w .start + w .run ≤ i
     by-test true g e′ = absurd (true≢false e′)
     by-test false g e′ = ltb-false i (w .start + w .run) g
 
@@ -118,7 +116,7 @@ module _ (p : ℕ → Bool) (a c best : ℕ) where
   unfolding betterOf
   better-le-best = by-tests (leb a c) (ltb c best) refl (p c)
     where
-      by-tests : (s t : Bool) → ltb c best ≡ t → (u : Bool) → cond (both s t && u) c best ≤ best
+      by-tests : (s t : Bool) → ltb c best ≡ t → (u : Bool) → cond (s && t && u) c best ≤ best
       by-tests true true f true = omega (arith, ltb-true c best f)
       by-tests true true f false = omega arith
       by-tests true false f u = omega arith
@@ -136,7 +134,7 @@ module _ (p : ℕ → Bool) (a c best : ℕ) where
   unfolding betterOf
   better-found before = by-tests (leb a c) refl (ltb c best) refl (p c) refl
     where
-      by-tests : (s : Bool) → leb a c ≡ s → (t : Bool) → ltb c best ≡ t → (u : Bool) → p c ≡ u → Found p a (cond (both s t && u) c best)
+      by-tests : (s : Bool) → leb a c ≡ s → (t : Bool) → ltb c best ≡ t → (u : Bool) → p c ≡ u → Found p a (cond (s && t && u) c best)
       by-tests true f true g true e =
           record { from = leb-true a c f; fits = omega (arith, before .fits, ltb-true c best g); passes = λ r. e }
       by-tests true f true g false e = before

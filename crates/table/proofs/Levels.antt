@@ -1,7 +1,7 @@
 -- What the owners of each level say of the table: their number is the number held, and all of them together are as many as the entries used
 -- exactly when no node stands twice.
 use mathlib.Core.Path.{_≡_, refl, sym, ap, _∙_}
-use mathlib.Core.Bool.{Bool, true, false}
+use mathlib.Core.Bool.{Bool, true, false, _&&_, and-false, and-true}
 use mathlib.Core.Logic.{_↔_}
 use mathlib.Core.List.{List, [], _∷_}
 use Prim.Native.Nat.{ℕ, suc, _+_, _-_, _^_, _≤_, _<_}
@@ -13,7 +13,7 @@ use lib.Dec.{ltb, eqb}
 use lib.ListN.{length, getD, set, replicate, length-set, length-replicate, List·getD-eq-default}
 use lib.Pow.{pow-pos, pow-mono}
 use Rattle.tree.specs.Node.{level}
-use Rattle.tree.specs.Held.{Nodes, Within, both, one-if, count, sizes}
+use Rattle.tree.specs.Held.{Nodes, Within, one-if, count, sizes}
 use Rattle.tree.specs.Block.{Block, blocksOf}
 use Rattle.tree.specs.Pages.{sum}
 use Rattle.tree.proofs.Coordinates.{past-le}
@@ -44,28 +44,20 @@ sizes-by-index h A w l q =
 sizes-together : (h : ℕ) (A : Nodes) → sum (suc h) (sizes h A) ≡ count (2 ^ suc h) A
 unfolding sizes
 sizes-together h A =
-    sum-cong (suc h) (λ l q. count-as-sum (2 ^ suc h) (λ n. both (A n) (eqb (level h n) l)))
-    ∙ sum-swap (suc h) (2 ^ suc h) (λ l n. one-if (both (A n) (eqb (level h n) l)))
+    sum-cong (suc h) (λ l q. count-as-sum (2 ^ suc h) (λ n. A n && eqb (level h n) l))
+    ∙ sum-swap (suc h) (2 ^ suc h) (λ l n. one-if (A n && eqb (level h n) l))
     ∙ sum-cong (2 ^ suc h) (λ n q. one-level n)
     ∙ sym (count-as-sum (2 ^ suc h) A)
   where
-    both-false : (b : Bool) → both b false ≡ false
-    both-false true = refl
-    both-false false = refl
-
-    both-true : (b : Bool) → both b true ≡ b
-    both-true true = refl
-    both-true false = refl
-
     at-level : ℕ → ℕ → ℕ
-    at-level n l = one-if (both (A n) (eqb (level h n) l))
+    at-level n l = one-if (A n && eqb (level h n) l)
 
     other-level : (n l : ℕ) → ¬ (l ≡ level h n) → at-level n l ≡ 0
-    other-level n l d = rw (ne-eqb (level h n) l (λ e. d (sym e)), both-false (A n))
+    other-level n l d = rw (ne-eqb (level h n) l (λ e. d (sym e)), and-false (A n))
 
     one-level : (n : ℕ) → sum (suc h) (at-level n) ≡ one-if (A n)
     one-level n =
-        sum-of-one (suc h) (level h n) (at-level n) (omega arith) (other-level n) ∙ rw (eq-eqb (level h n) (level h n) refl, both-true (A n))
+        sum-of-one (suc h) (level h n) (at-level n) (omega arith) (other-level n) ∙ rw (eq-eqb (level h n) (level h n) refl, and-true (A n))
 
 -- ---- the list of thirteen
 

@@ -12,7 +12,7 @@ use lib.ListN.{length, getD, replicate, getD-replicate, List·getD-eq-default}
 use lib.Seq.{ext-getD}
 use lib.Pow.{pow-pos}
 use Rattle.tree.specs.Node.{InTree, level}
-use Rattle.tree.specs.Held.{Nodes, Within, Legal, Safe, both, one-if, count, sizes}
+use Rattle.tree.specs.Held.{Nodes, Within, Legal, Safe, one-if, count, sizes}
 use Rattle.tree.proofs.Sum.{one-if-le-one}
 use Rattle.tree.proofs.Sizes.{sizes-above}
 use Rattle.tree.proofs.Count.{equal-of-both-ways}
@@ -21,7 +21,7 @@ use Rattle.layout.specs.Set.{layoutSet}
 use Rattle.layout.proofs.Theorems.{layout-in-tree, layout-is-legal, layout-is-safe, layout-has-counts, legal-set-fits, safe-set-is-layout}
 use Rattle.table.specs.Table.{nodeAt, occupied, InOrder, tally, tenantsAt, countsOf, all-below, in-order?}
 use Rattle.table.proofs.Tabulate.{tabulate-length, getD-tabulate}
-use Rattle.table.proofs.Tally.{node-in-table, tenant-of, occupied-above-zero, occupied-by}
+use Rattle.table.proofs.Occupied.{tenant-below, tenant-of, occupied-above-zero, occupied-by, occupied-within}
 use Rattle.table.proofs.Tally.{Once, tally-agrees, all-pass, node-stands-once, once-of-tally, tally-is-count}
 
 -- ---- the counts
@@ -40,18 +40,13 @@ counts-past h T l q = List·getD-eq-default (countsOf h T) 0 {n = l} (omega (ari
 -- ---- a table whose nodes are in the tree and none twice
 
 module _ (h : ℕ) (T : List ℕ) (below : (t : ℕ) → nodeAt T t < 2 ^ suc h) where
-  pub occupied-in-tree : Within h (occupied T)
-  occupied-in-tree n e =
-      let t = tenant-of T n e in
-      record { above-zero = occupied-above-zero T n e; in-height = rw (t .node) at (below (t .tenant)) }
-
   pub tenants-are-sizes : Once T → (l : ℕ) → tenantsAt h T l ≡ sizes h (occupied T) l
   unfolding tenantsAt sizes
   tenants-are-sizes once l =
       tally-is-count (2 ^ suc h) T below once (λ n. ltb 0 n && eqb (level h n) l) refl
       ∙ ap (count (2 ^ suc h)) (fun-ext (λ n. by-value n (occupied T n) refl))
     where
-      by-value : (n : ℕ) (b : Bool) → occupied T n ≡ b → (b && (ltb 0 n && eqb (level h n) l)) ≡ both b (eqb (level h n) l)
+      by-value : (n : ℕ) (b : Bool) → occupied T n ≡ b → (b && (ltb 0 n && eqb (level h n) l)) ≡ (b && eqb (level h n) l)
       by-value n true v = rw (lt-ltb 0 n (occupied-above-zero T n v))
       by-value n false v = refl
 
@@ -70,10 +65,10 @@ module _ (h : ℕ) (T : List ℕ) (low : h ≤ 12) (o : InOrder h T) where
   in-order-counts = sizes-are-counts h T (o .in-tree) low (o .once)
 
   pub in-order-fits : pages (countsOf h T) ≤ 2 ^ h
-  in-order-fits = legal-set-fits h (countsOf h T) (occupied T) (occupied-in-tree h T (o .in-tree)) (o .legal) in-order-counts
+  in-order-fits = legal-set-fits h (countsOf h T) (occupied T) (occupied-within h T (o .in-tree)) (o .legal) in-order-counts
 
   pub in-order-is-layout : (n : ℕ) → occupied T n ≡ layoutSet h (countsOf h T) n
-  in-order-is-layout = safe-set-is-layout h (countsOf h T) (occupied T) (occupied-in-tree h T (o .in-tree)) (o .legal) (o .safe) in-order-counts
+  in-order-is-layout = safe-set-is-layout h (countsOf h T) (occupied T) (occupied-within h T (o .in-tree)) (o .legal) (o .safe) in-order-counts
 
 -- ---- a table whose nodes are a layout's
 
@@ -85,7 +80,7 @@ module _ (h : ℕ) (T cs : List ℕ) (fits : pages cs ≤ 2 ^ h) (same : (n : �
   node-below : (t : ℕ) → nodeAt T t < 2 ^ suc h
   node-below t =
       below-unless-zero (nodeAt T t) (2 ^ suc h) (pow-pos (suc h))
-      (λ q. layout-in-tree h cs (nodeAt T t) (sym (same (nodeAt T t)) ∙ occupied-by T t (nodeAt T t) q refl) .in-height)
+      (λ q. layout-in-tree h cs (nodeAt T t) (sym (same (nodeAt T t)) ∙ occupied-by T t q) .in-height)
 
   same-set : occupied T ≡ layoutSet h cs
   same-set = fun-ext same
@@ -148,7 +143,7 @@ module _ (h : ℕ) (T : List ℕ) where
   in-tree-of-test e t = below-unless-zero (nodeAt T t) (2 ^ suc h) (pow-pos (suc h)) (λ q. ltb-true (nodeAt T t) (2 ^ suc h) (passes q))
     where
       passes : 0 < nodeAt T t → ltb (nodeAt T t) (2 ^ suc h) ≡ true
-      passes q = all-pass (λ n. ltb n (2 ^ suc h)) T (eqb-true _ _ e) t (node-in-table T t q)
+      passes q = all-pass (λ n. ltb n (2 ^ suc h)) T (eqb-true _ _ e) t (tenant-below T t q)
 
   test-of-in-tree : ((t : ℕ) → nodeAt T t < 2 ^ suc h) → all-in-tree ≡ true
   test-of-in-tree below =
@@ -195,7 +190,7 @@ module _ (h : ℕ) (T : List ℕ) where
       same : (n : ℕ) → occupied T n ≡ layoutSet h (countsOf h T) n
       same n =
           equal-of-both-ways (occupied T n) (layoutSet h (countsOf h T) n)
-          (λ e. sym (same-in-tree n (occupied-in-tree h T (p .in-tree) n e)) ∙ e)
+          (λ e. sym (same-in-tree n (occupied-within h T (p .in-tree) n e)) ∙ e)
           (λ e. same-in-tree n (layout-in-tree h (countsOf h T) n e) ∙ e)
 
   passes-of-in-order : h ≤ 12 → InOrder h T → Passes h T
@@ -222,7 +217,7 @@ empty-at (suc n) (suc t) = empty-at n t
 empty-free : (n m : ℕ) → ¬ (occupied (replicate n 0) m ≡ true)
 empty-free n m e =
     let t = tenant-of (replicate n 0) m e in
-    omega (arith, occupied-above-zero (replicate n 0) m e, t .node, empty-at n (t .tenant))
+    omega (arith, occupied-above-zero (replicate n 0) m e, t .2, empty-at n (t .0))
 
 pub empty-in-order : (h n : ℕ) → InOrder h (replicate n 0)
 empty-in-order h n =

@@ -1,21 +1,21 @@
 -- The rows of a level and the nodes of that level: the indices that are in one row and not in another are the nodes that leave or come.
 use mathlib.Core.Path.{_≡_, refl, ap, ap₂}
-use mathlib.Core.Bool.{Bool, true, false, not, _&&_, cond, and-true}
+use mathlib.Core.Bool.{Bool, true, false, not, _&&_, cond, and-true, _||_}
 use mathlib.Core.List.{List, _∷_}
 use Prim.Native.Nat.{ℕ, zero, suc, _+_, _-_, _^_, _≤_, _<_}
 use native.Mathlib.Nat.{add-zero, add-suc}
 use native.Mathlib.Decide.{decLt, ℕ-discrete}
 use native.Mathlib.Omega.{arith}
-use borrow.Author.Tests.{ltb-true, leb-true, lt-ltb, le-ltb, le-leb, eq-eqb, ne-eqb}
+use borrow.Author.Tests.{ltb-true, leb-true, lt-ltb, le-ltb, le-leb, lt-leb, eq-eqb, ne-eqb}
 use lib.Dec.{eqb, leb, ltb}
-use Rattle.tree.specs.Held.{Nodes, both}
+use Rattle.tree.specs.Held.{Nodes}
 use Rattle.tree.specs.Block.{node}
 use Rattle.tree.proofs.Coordinates.{past-le, node-in-tree, block-of-node}
-use Rattle.layout.specs.Layout.{block, either}
-use Rattle.layout.specs.Rows.{no-index, startAt, runAt, loneAt, inRow, rowsHold, holdsNode}
+use Rattle.layout.specs.Layout.{block}
+use Rattle.layout.specs.Rows.{no-index, startAt, runAt, loneAt, inRow, rowsHold, holdsNode, upFrom}
 use Rattle.layout.specs.declared.Layout.{Layout}
 use Rattle.layout.proofs.Bounds.{power-le-4096}
-use Rattle.table.specs.Pairing.{upFrom, keep, leavers, places, pair}
+use Rattle.table.specs.Pairing.{keep, leavers, places, pair}
 use Rattle.table.specs.Plan.{rowHolds, onlyFrom, nodesAt, levelShifts, rowOf, indexOn, nodesBut, shiftsAt, LevelWithin, Plannable}
 use Rattle.table.specs.declared.plan.Row.{Row}
 use Rattle.table.proofs.Least.{only-step, only-empty}
@@ -35,14 +35,22 @@ node-by-row h L l i low q r =
 -- the hole is the node given up, if that is on this level
 hole-by-node : (b gone i : ℕ) → i < b → b ≤ 4096 → eqb i (indexOn b gone) ≡ eqb (b + i) gone
 hole-by-node b gone i q small =
-    elim (decLt gone b) [
-      | yes r ↦ rw (lt-ltb gone b r, ne-eqb i no-index (omega arith), ne-eqb (b + i) gone (omega arith))
-      | no r ↦ rw (le-ltb gone b (omega arith)) (by-index (ℕ-discrete (b + i) gone) r)
-    ]
+    by-start (decLt gone b)
   where
-    by-index : Dec (b + i ≡ gone) → ¬ (gone < b) → eqb i (gone - b) ≡ eqb (b + i) gone
+    other : ¬ (b + i ≡ gone) → eqb i no-index ≡ eqb (b + i) gone
+    other e = rw (ne-eqb i no-index (omega arith), ne-eqb (b + i) gone e)
+
+    by-index : Dec (b + i ≡ gone) → b ≤ gone → eqb i (gone - b) ≡ eqb (b + i) gone
     by-index (yes e) r = rw (eq-eqb (b + i) gone e) (eq-eqb i (gone - b) (omega arith))
     by-index (no e) r = rw (ne-eqb (b + i) gone e) (ne-eqb i (gone - b) (λ f. e (omega arith)))
+
+    by-end : Dec (gone - b < b) → b ≤ gone → eqb i (cond (ltb (gone - b) b) (gone - b) no-index) ≡ eqb (b + i) gone
+    by-end (yes s) r = rw (lt-ltb (gone - b) b s) (by-index (ℕ-discrete (b + i) gone) r)
+    by-end (no s) r = rw (le-ltb (gone - b) b (omega arith)) (other (λ e. s (omega arith)))
+
+    by-start : Dec (gone < b) → eqb i (indexOn b gone) ≡ eqb (b + i) gone
+    by-start (yes r) = rw (lt-leb b gone r) (other (λ e. absurd (omega arith)))
+    by-start (no r) = rw (le-leb b gone (omega arith)) (by-end (decLt (gone - b) b) (omega arith))
 
 module _ (h : ℕ) (L : Layout) (l i : ℕ) (low : h ≤ 12) (q : l ≤ h) (small : 2 ^ (h - l) ≤ 4096) (r : i < 2 ^ (h - l)) where
   pub row-with-hole : (gone : ℕ) → rowHolds (rowOf L l (indexOn (2 ^ (h - l)) gone)) i ≡ nodesBut h L gone (2 ^ (h - l) + i)
@@ -64,7 +72,7 @@ none-past-level m L l hole i within q r =
     not-lone (no e) = ne-eqb (loneAt L l) i e
 
     by-tests : (s : Bool) → leb (startAt L l) i ≡ s → (t : Bool) → ltb i (startAt L l + runAt L l) ≡ t
-        → (either (both s t) false && not (eqb i hole)) ≡ false
+        → (((s && t) || false) && not (eqb i hole)) ≡ false
     by-tests true f true g =
         let lo = leb-true (startAt L l) i f in
         let hi = ltb-true i (startAt L l + runAt L l) g in

@@ -1,16 +1,18 @@
 -- One level's moves: what is paired after each turn of the loop over the two rows, and that at its end everything is.
 use mathlib.Core.Path.{_≡_, refl, sym, _∙_}
-use mathlib.Core.Bool.{Bool, true, not, and-eq-true-iff}
+use mathlib.Core.Bool.{Bool, true, false, not, and-eq-true-iff, and-not-self}
 use mathlib.Core.Logic.{_⊎_, inl, inr}
 use mathlib.Core.List.{List, [], _∷_, _++_, map, append-nil, append-assoc}
 use Prim.Native.Nat.{ℕ, suc, _+_, _≤_, _<_}
 use native.Mathlib.Numerals.{add-one}
 use native.Mathlib.Omega.{arith}
+use borrow.Author.Tests.{eqb-true}
+use lib.Dec.{eqb}
 use lib.ListN.{length, getD}
 use Rattle.layout.specs.Runs.{Near}
-use Rattle.layout.specs.Rows.{no-index}
-use Rattle.table.specs.Pairing.{Shift, pair}
-use Rattle.table.specs.Plan.{rowHolds, onlyIn, onlyFrom, leastOnly, movesIn, nodesAt, levelShifts, spareIndex, moveOf}
+use Rattle.layout.specs.Rows.{no-index, upFrom}
+use Rattle.table.specs.Pairing.{keep, Shift, pair}
+use Rattle.table.specs.Plan.{rowHolds, sameRow, onlyIn, onlyFrom, leastOnly, movesIn, nodesAt, levelShifts, spareIndex, moveOf}
 use Rattle.table.specs.Plan.{LevelShifted}
 use Rattle.table.specs.declared.plan.Row.{Row}
 use Rattle.table.specs.declared.plan.Plan.{Plan}
@@ -111,3 +113,34 @@ module _ {b : ℕ} {v w : Row} {owners : List ℕ} {before plan : Plan} {i j : �
         count = omega (arith, rw (places, none) at (s .count));
         spare = e ∙ (rw places at (s .spare));
       }
+
+-- ---- a row that stays as it was
+
+keep-none : (p : ℕ → Bool) (xs : List ℕ) → ((x : ℕ) → p x ≡ false) → keep p xs ≡ []
+keep-none p [] e = refl
+keep-none p (x ∷ xs) e = rw (e x) (keep-none p xs e)
+
+only-in-itself : (v : Row) → onlyFrom v v 0 ≡ []
+unfolding onlyFrom
+only-in-itself v = keep-none (onlyIn v v) (upFrom 0 no-index) (λ i. and-not-self (rowHolds v i))
+
+same-row-is : (v w : Row) → sameRow v w ≡ true → v ≡ w
+same-row-is v w e =
+    let most = and-eq-true-iff _ (eqb (v .hole) (w .hole)) .0 e in
+    let runs = and-eq-true-iff _ (eqb (v .lone) (w .lone)) .0 (most .0) in
+    let starts = and-eq-true-iff (eqb (v .start) (w .start)) (eqb (v .run) (w .run)) .0 (runs .0) in
+    let start = eqb-true (v .start) (w .start) (starts .0) in
+    let run = eqb-true (v .run) (w .run) (starts .1) in
+    let lone = eqb-true (v .lone) (w .lone) (runs .1) in
+    let hole = eqb-true (v .hole) (w .hole) (most .1) in
+    λ i. record { start = start i; run = run i; lone = lone i; hole = hole i }
+
+unshifted : (b : ℕ) (v : Row) (owners : List ℕ) (plan : Plan) → LevelShifted b v v owners plan (record { plan = plan; spare = no-index })
+unfolding levelShifts spareIndex
+unshifted b v owners plan =
+    let none = only-in-itself v in
+    record { moves = rw (none, append-nil); count = rw none (omega arith); spare = rw none }
+
+pub same-row-unshifted : (b : ℕ) (v w : Row) (owners : List ℕ) (plan : Plan) → sameRow v w ≡ true
+    → LevelShifted b v w owners plan (record { plan = plan; spare = no-index })
+same-row-unshifted b v w owners plan e = rw (← same-row-is v w e) (unshifted b v owners plan)

@@ -1,4 +1,4 @@
--- Laws of `stands`, `occupied` and `tally`: who is on a node, and how many entries of a table pass a test of their node.
+-- Laws of `tally`: how many entries of a table pass a test of their node.
 use mathlib.Core.Path.{_≡_, refl, sym, ap, ap₂, _∙_}
 use mathlib.Core.Bool.{Bool, true, false, _&&_, _||_, false≢true, and-eq-true-iff, and-true, and-false, or-true}
 use mathlib.Core.Logic.{_↔_}
@@ -11,59 +11,10 @@ use lib.Dec.{eqb, ltb}
 use lib.ListN.{length, List·getD-eq-default}
 use Rattle.tree.specs.Held.{one-if, count}
 use Rattle.tree.specs.Pages.{sum}
-use Rattle.tree.proofs.Sum.{sum-cong, sum-of-zeros, sum-swap, count-as-sum, count-of-none, count-le-one}
+use Rattle.tree.proofs.Sum.{sum-cong, sum-first, sum-of-zeros, sum-swap, count-as-sum, count-of-none, count-le-one}
 use Rattle.tree.proofs.Count.{count-of-one, count-of-two, equal-counts-converse}
-use Rattle.layout.proofs.Pages.{sum-first}
-use Rattle.table.specs.Table.{nodeOf, nodeAt, stands, occupied, tally}
-
--- ---- who is on a node
-
--- only a tenant of the table has a node
-pub node-in-table : (T : List ℕ) (t : ℕ) → 0 < nodeAt T t → t < length T
-node-in-table T t q =
-    elim (decLt t (length T)) [
-      | yes r ↦ r
-      | no r ↦ absurd (omega (arith, ap nodeOf (List·getD-eq-default T 0 {n = t} (omega arith))))
-    ]
-
--- a tenant whose node is n
-pub record TenantOn (T : List ℕ) (n : ℕ) : Type 0 where
-  pub tenant : ℕ
-  pub in-table : tenant < length T
-  pub node : nodeAt T tenant ≡ n
-
-node-stands : (T : List ℕ) (t n : ℕ) → t < length T → nodeAt T t ≡ n → stands T n ≡ true
-unfolding stands
-node-stands [] t n q e = absurd (omega arith)
-node-stands (x ∷ T) zero n q e = ap (λ b. b || stands T n) (eq-eqb (nodeOf x) n e)
-node-stands (x ∷ T) (suc t) n q e = ap (λ b. eqb (nodeOf x) n || b) (node-stands T t n (omega arith) e) ∙ or-true (eqb (nodeOf x) n)
-
-tenant-of-standing : (T : List ℕ) (n : ℕ) → stands T n ≡ true → TenantOn T n
-unfolding stands
-tenant-of-standing [] n e = absurd (false≢true e)
-tenant-of-standing (x ∷ T) n e = by-first (eqb (nodeOf x) n) refl e (tenant-of-standing T n)
-  where
-    by-first : (b : Bool) → eqb (nodeOf x) n ≡ b → (b || stands T n) ≡ true → (stands T n ≡ true → TenantOn T n) → TenantOn (x ∷ T) n
-    by-first true p e later = record { tenant = 0; in-table = omega arith; node = eqb-true (nodeOf x) n p }
-    by-first false p e later =
-        let t = later e in
-        record { tenant = suc (t .tenant); in-table = omega arith; node = t .node }
-
--- an occupied node is a tenant's and is not 0, and the node of a tenant that has one is occupied
-pub tenant-of : (T : List ℕ) (n : ℕ) → occupied T n ≡ true → TenantOn T n
-unfolding occupied
-tenant-of T n e = tenant-of-standing T n (and-eq-true-iff (ltb 0 n) (stands T n) .0 e .1)
-
-pub occupied-above-zero : (T : List ℕ) (n : ℕ) → occupied T n ≡ true → 0 < n
-unfolding occupied
-occupied-above-zero T n e = ltb-true 0 n (and-eq-true-iff (ltb 0 n) (stands T n) .0 e .0)
-
-pub occupied-by : (T : List ℕ) (t n : ℕ) → 0 < n → nodeAt T t ≡ n → occupied T n ≡ true
-unfolding occupied
-occupied-by T t n q e = ap₂ _&&_ (lt-ltb 0 n q) (node-stands T t n (node-in-table T t (omega arith)) e)
-
-pub occupied-iff : (T : List ℕ) (n : ℕ) → (occupied T n ≡ true) ↔ ((0 < n) × TenantOn T n)
-occupied-iff T n = (λ e. (occupied-above-zero T n e, tenant-of T n e), λ p. occupied-by T (p .1 .tenant) n (p .0) (p .1 .node))
+use Rattle.table.specs.Table.{nodeOf, nodeAt, occupied, tally}
+use Rattle.table.proofs.Occupied.{tenant-below, tenant-of, occupied-by}
 
 -- ---- how many entries pass
 
@@ -108,10 +59,11 @@ node-stands-once T once n q = tally-by-tenants (eqb n) T ∙ by-value (occupied 
     by-value : (b : Bool) → occupied T n ≡ b → count (length T) on-n ≡ one-if b
     by-value true v =
         let t = tenant-of T n v in
-        let some = count-of-one (length T) on-n (t .tenant) (t .in-table) (eq-eqb n (nodeAt T (t .tenant)) (sym (t .node))) in
+        let some = count-of-one (length T) on-n (t .0) (t .1) (eq-eqb n (nodeAt T (t .0)) (sym (t .2))) in
         let one = count-le-one (length T) on-n same in
         omega arith
-    by-value false v = count-of-none (length T) on-n (λ t r f. false≢true (sym v ∙ occupied-by T t n q (sym (eqb-true n (nodeAt T t) f))))
+    by-value false v =
+        count-of-none (length T) on-n (λ t r f. let e : nodeAt T t ≡ n = sym (eqb-true n (nodeAt T t) f) in false≢true (sym v ∙ rw e at (occupied-by T t (omega arith))))
 
 -- and where each node of the table stands in it once, no two tenants are on one
 pub once-of-tally : (T : List ℕ) → ((t : ℕ) → 0 < nodeAt T t → tally (eqb (nodeAt T t)) T ≤ 1) → Once T
@@ -123,7 +75,7 @@ once-of-tally T single t t′ q e =
   where
     two : ¬ (t ≡ t′) → 1 < count (length T) (λ i. eqb (nodeAt T t) (nodeAt T i))
     two d =
-        count-of-two (length T) (λ i. eqb (nodeAt T t) (nodeAt T i)) t t′ d (node-in-table T t q) (node-in-table T t′ (omega arith))
+        count-of-two (length T) (λ i. eqb (nodeAt T t) (nodeAt T i)) t t′ d (tenant-below T t q) (tenant-below T t′ (omega arith))
         (eq-eqb (nodeAt T t) (nodeAt T t) refl) (eq-eqb (nodeAt T t) (nodeAt T t′) e)
 
 -- exactly one number below m is k

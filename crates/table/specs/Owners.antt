@@ -33,5 +33,6 @@ levelCount h o l = usedIn (take (2 ^ (h - l)) (drop (2 ^ (h - l)) o))
 abbrev pub countUpTo : ℕ → List ℕ → ℕ → ℕ
 countUpTo h o l = cond (leb l h) (levelCount h o l) 0
 
+-- the number of owners on each of the thirteen levels
 unfoldable pub levelCounts : ℕ → List ℕ → List ℕ
 levelCounts h o = tabulate 0 13 (countUpTo h o)

@@ -7,14 +7,11 @@ use Prim.Native.Nat.{ℕ, zero, suc, _-_, _^_}
 use lib.Dec.{eqb}
 use lib.ListN.{getD, length, set}
 use Rattle.tree.specs.Held.{Nodes}
+use Rattle.layout.specs.Rows.{upFrom}
 use Rattle.table.specs.Table.{nodeOf, withNode, occupied}
 use Rattle.table.specs.declared.Move.{Move}
 
--- n numbers from a on
-abbrev pub upFrom : ℕ → ℕ → List ℕ
-upFrom a zero = []
-upFrom a (suc n) = a ∷ upFrom (suc a) n
-
+-- the numbers that pass the test, in their order
 abbrev pub keep : (ℕ → Bool) → List ℕ → List ℕ
 keep p [] = []
 keep p (x ∷ xs) = cond (p x) (x ∷ keep p xs) (keep p xs)
@@ -36,6 +33,7 @@ pub record Shift : Type 0 where
   pub from : ℕ
   pub to : ℕ
 
+-- the first with the first, the second with the second, as long as both have one
 abbrev pub pair : List ℕ → List ℕ → List Shift
 pair [] ys = []
 pair (x ∷ xs) [] = []

@@ -5,11 +5,11 @@ use mathlib.Core.List.{List, _++_, map}
 use Prim.Native.Nat.{ℕ, _+_, _-_, _^_, _≤_, _<_}
 use lib.Dec.{eqb, leb, ltb}
 use lib.ListN.{getD, length, take}
-use Rattle.tree.specs.Held.{Nodes, both}
+use Rattle.tree.specs.Held.{Nodes}
 use Rattle.layout.specs.Runs.{Near}
-use Rattle.layout.specs.Rows.{no-index, startAt, runAt, loneAt, inRow, holdsNode}
+use Rattle.layout.specs.Rows.{no-index, startAt, runAt, loneAt, inRow, holdsNode, upFrom}
 use Rattle.layout.specs.declared.Layout.{Layout}
-use Rattle.table.specs.Pairing.{upFrom, keep, Shift, pair, leavers, places, shifts, newcomer}
+use Rattle.table.specs.Pairing.{keep, Shift, pair, leavers, places, shifts, newcomer}
 use Rattle.table.specs.declared.Move.{Move}
 use Rattle.table.specs.declared.plan.Plan.{Plan}
 use Rattle.table.specs.declared.plan.Planned.{Planned}
@@ -23,6 +23,10 @@ rowHolds w i = inRow (w .start) (w .run) (w .lone) i && not (eqb i (w .hole))
 -- the last index of the run; its start where the run is empty
 abbrev pub lastOf : Row → ℕ
 lastOf w = cond (eqb (w .run) 0) (w .start) (w .start + (w .run - 1))
+
+-- two rows with the same numbers
+abbrev pub sameRow : Row → Row → Bool
+sameRow v w = eqb (v .start) (w .start) && eqb (v .run) (w .run) && eqb (v .lone) (w .lone) && eqb (v .hole) (w .hole)
 
 -- index i is in the one row and not in the other
 abbrev pub onlyIn : Row → Row → ℕ → Bool
@@ -38,7 +42,7 @@ leastOnly v w a = getD (onlyFrom v w a) 0 no-index
 
 -- the candidate c, where it is at least a, less than the best so far, and passes the test; else the best so far
 unfoldable pub betterOf : (ℕ → Bool) → ℕ → ℕ → ℕ → ℕ
-betterOf p a c best = cond (both (leb a c) (ltb c best) && p c) c best
+betterOf p a c best = cond (leb a c && ltb c best && p c) c best
 
 -- the moves of a plan: its first n entries
 abbrev pub movesIn : Plan → List Move
@@ -78,9 +82,9 @@ pub record LevelShifted (b : ℕ) (old new : Row) (owners : List ℕ) (before : 
 abbrev pub rowOf : Layout → ℕ → ℕ → Row
 rowOf L l hole = record { start = startAt L l; run = runAt L l; lone = loneAt L l; hole = hole }
 
--- the index of node n on the level whose first node is b
+-- the index of node n on the level whose first node is b, and which has b nodes; no index for a node of another level
 abbrev pub indexOn : ℕ → ℕ → ℕ
-indexOn b n = cond (ltb n b) no-index (n - b)
+indexOn b n = cond (leb b n && ltb (n - b) b) (n - b) no-index
 
 -- the node with index i on that level; 0 where there is no index
 abbrev pub nodeOn : ℕ → ℕ → ℕ

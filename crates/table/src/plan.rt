@@ -6,7 +6,7 @@ ghost use Prim.Native.Nat.{_+_, _^_, _≤_, _<_};
 ghost use lib.ListN.{length, getD};
 ghost use Rattle.layout.specs.Runs.{Near};
 ghost use Rattle.layout.specs.Rows.{no-index};
-ghost use Rattle.table.specs.Plan.{rowHolds, lastOf, onlyIn, betterOf, leastOnly, movesIn};
+ghost use Rattle.table.specs.Plan.{rowHolds, sameRow, lastOf, onlyIn, betterOf, leastOnly, movesIn};
 ghost use Rattle.table.specs.Plan.{moveOf, levelShifts, Shiftable, LevelShifted};
 ghost use Rattle.table.specs.Plan.{rowOf, indexOn, nodeOn, shiftsAt, Plannable, LevelPlanned, AllPlanned};
 use crate::Move;
@@ -30,6 +30,22 @@ impl Row {
             return false;
         }
         layout::in_row(self.start, self.run, self.lone, index)
+    }
+
+    // Whether the rows have the same numbers.
+    fn same(self, other: Row) -> bool
+        ensures { λ r. ⌜ r ≡ sameRow self other ⌝ }
+    {
+        if self.start != other.start {
+            return false;
+        }
+        if self.run != other.run {
+            return false;
+        }
+        if self.lone != other.lone {
+            return false;
+        }
+        self.hole == other.hole
     }
 
     // The last index of the run; its start where the run is empty.
@@ -127,9 +143,9 @@ pub struct Shifted {
     pub spare: u16,
 }
 
-// The plan with one level's moves at its end: the blocks that are in `old` and not in `new` go, left to right, to the places that are in `new`
+// The plan with the moves from one row to another at its end: the blocks that are in `old` and not in `new` go, left to right, to the places that are in `new`
 // and not in `old`; spare is the first place left over. The level's first node is `base`, and `owners` has each node's tenant and one.
-pub fn shift_level(plan: Plan, base: u16, old: Row, new: Row, owners: &[u16; 8192]) -> Shifted
+fn shift_rows(plan: Plan, base: u16, old: Row, new: Row, owners: &[u16; 8192]) -> Shifted
     requires rows { ⌜ Shiftable base old new (now owners) ⌝ }
     requires room { ⌜ plan .n + length (levelShifts base old new) ≤ 4 ⌝ }
     ensures { λ r. ⌜ LevelShifted base old new (now (owners .entry)) plan r ⌝ }
@@ -143,6 +159,18 @@ pub fn shift_level(plan: Plan, base: u16, old: Row, new: Row, owners: &[u16; 819
         j = least(new, old, j + 1);
     }
     Shifted { plan, spare: j }
+}
+
+// The same as `shift_rows`, but a level that stays as it was, as most do, is not searched.
+pub fn shift_level(plan: Plan, base: u16, old: Row, new: Row, owners: &[u16; 8192]) -> Shifted
+    requires rows { ⌜ Shiftable base old new (now owners) ⌝ }
+    requires room { ⌜ plan .n + length (levelShifts base old new) ≤ 4 ⌝ }
+    ensures { λ r. ⌜ LevelShifted base old new (now (owners .entry)) plan r ⌝ }
+{
+    if old.same(new) {
+        return Shifted { plan, spare: NONE };
+    }
+    shift_rows(plan, base, old, new, owners)
 }
 
 // The row of one level of a layout, with a hole.
@@ -162,14 +190,18 @@ fn row_of(rows: Layout, level: u16, hole: u16) -> Row
     }
 }
 
-// The index of a node on the level whose first node is `base`; NONE for a node before that.
+// The index of a node on the level whose first node is `base`, and which has `base` nodes; NONE for a node of another level.
 fn index_on(base: u16, node: u16) -> u16
     ensures { λ r. ⌜ r ≡ indexOn base node ⌝ }
 {
     if node < base {
         return NONE;
     }
-    node - base
+    let index = node - base;
+    if base <= index {
+        return NONE;
+    }
+    index
 }
 
 // The node with an index on the level whose first node is `base`; 0 for NONE.

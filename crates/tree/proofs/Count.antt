@@ -1,10 +1,10 @@
 -- Two tests with equal counts: as many numbers pass only the first as pass only the second. And what a count of one or two says.
 use mathlib.Core.Path.{_≡_, refl, sym, _∙_}
-use mathlib.Core.Bool.{Bool, true, false, not, false≢true}
+use mathlib.Core.Bool.{Bool, true, false, not, false≢true, _&&_}
 use Prim.Native.Nat.{ℕ, zero, suc, _+_, _<_}
 use native.Mathlib.Omega.{arith}
 use native.Mathlib.Decide.{ℕ-discrete}
-use Rattle.tree.specs.Held.{both, one-if, count}
+use Rattle.tree.specs.Held.{one-if, count}
 use Rattle.tree.proofs.Sum.{count-of-none}
 
 -- ---- two Boolean values
@@ -14,21 +14,21 @@ equal-of-both-ways true y p q = sym (p refl)
 equal-of-both-ways false true p q = q refl
 equal-of-both-ways false false p q = refl
 
-pub passes-only-first : (x y : Bool) → x ≡ true → ¬ (y ≡ true) → both x (not y) ≡ true
+pub passes-only-first : (x y : Bool) → x ≡ true → ¬ (y ≡ true) → (x && not y) ≡ true
 passes-only-first true true p q = absurd (q refl)
 passes-only-first true false p q = refl
 passes-only-first false y p q = p
 
-pub passes-first : (x y : Bool) → both x (not y) ≡ true → x ≡ true
+pub passes-first : (x y : Bool) → (x && not y) ≡ true → x ≡ true
 passes-first true y p = refl
 passes-first false y p = p
 
-pub fails-second : (x y : Bool) → both x (not y) ≡ true → ¬ (y ≡ true)
+pub fails-second : (x y : Bool) → (x && not y) ≡ true → ¬ (y ≡ true)
 fails-second true true p q = false≢true p
 fails-second true false p q = false≢true q
 fails-second false y p q = false≢true p
 
-differences-of-bits : (x y : Bool) → one-if (both x (not y)) + one-if y ≡ one-if (both y (not x)) + one-if x
+differences-of-bits : (x y : Bool) → one-if (x && not y) + one-if y ≡ one-if (y && not x) + one-if x
 differences-of-bits true true = refl
 differences-of-bits true false = refl
 differences-of-bits false true = refl
@@ -41,7 +41,7 @@ one-if-true false e = absurd (false≢true e)
 -- ---- the numbers that pass only the first of two tests
 
 abbrev pub onlyFirst : (ℕ → Bool) → (ℕ → Bool) → ℕ → Bool
-onlyFirst f g k = both (f k) (not (g k))
+onlyFirst f g k = f k && not (g k)
 
 pub differences-of-counts : (n : ℕ) (f g : ℕ → Bool) → count n (onlyFirst f g) + count n g ≡ count n (onlyFirst g f) + count n f
 unfolding count

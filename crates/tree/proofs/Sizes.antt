@@ -1,6 +1,6 @@
 -- The number held at a level is the same by number and by block.
 use mathlib.Core.Path.{_≡_, refl, sym, ap, ap₂, _∙_}
-use mathlib.Core.Bool.{Bool, true, false}
+use mathlib.Core.Bool.{Bool, true, false, _&&_, and-true}
 use Prim.Native.Nat.{ℕ, zero, suc, _+_, _-_, _*_, _^_, _≤_, _<_}
 use native.Mathlib.Omega.{arith}
 use native.Mathlib.Nat.{two-pow-succ}
@@ -9,7 +9,7 @@ use borrow.Author.Tests.{eqb-true, eq-eqb}
 use lib.Dec.{eqb}
 use lib.Pow.{pow-mono}
 use Rattle.tree.specs.Node.{depth, level}
-use Rattle.tree.specs.Held.{Nodes, both, one-if, count, sizes}
+use Rattle.tree.specs.Held.{Nodes, one-if, count, sizes}
 use Rattle.tree.specs.Block.{Block, past, node, Blocks, bsizes}
 use Rattle.tree.specs.Pages.{sum}
 use Rattle.tree.proofs.Highest.{Highest, depth-highest}
@@ -18,10 +18,6 @@ use Rattle.tree.proofs.Bridge.{SameSet}
 use Rattle.tree.proofs.Sets.{both-left, both-right}
 use Rattle.tree.proofs.Sum.{sum-cong, sum-of-zeros, sum-split, sum-stops, one-if-not-true, count-as-sum, count-of-none}
 use Rattle.tree.proofs.Room.{heldAt, held-in-tree}
-
-both-true : (b : Bool) → both b true ≡ b
-both-true true = refl
-both-true false = refl
 
 suc-sub-le : (h l : ℕ) → suc (h - l) ≤ suc h
 suc-sub-le h l = omega arith
@@ -36,7 +32,7 @@ sizes-above h A l q = count-of-none (2 ^ suc h) _ (λ n r e. no-level n (eqb-tru
 
 module _ (h : ℕ) (A : Nodes) (B : Blocks) (S : SameSet h A B) (l : ℕ) where
   abbrev heldAtLevel : ℕ → Bool
-  heldAtLevel n = both (A n) (eqb (level h n) l)
+  heldAtLevel n = A n && eqb (level h n) l
 
   held-level : (n : ℕ) → heldAtLevel n ≡ true → level h n ≡ l
   held-level n p = eqb-true (level h n) l (both-right (A n) (eqb (level h n) l) p)
@@ -54,7 +50,7 @@ module _ (h : ℕ) (A : Nodes) (B : Blocks) (S : SameSet h A B) (l : ℕ) where
   at-index q k r =
       let b : Block = record { level = l; index = k } in
       let p : past b ≤ 2 ^ h = past-le h b q r in
-      ap one-if (ap₂ both (S .same b p) (eq-eqb (level h (node h b)) l (node-level h b p)) ∙ both-true (B b))
+      ap one-if (ap₂ _&&_ (S .same b p) (eq-eqb (level h (node h b)) l (node-level h b p)) ∙ and-true (B b))
 
   sizes-in-height : l ≤ h → sizes h A l ≡ bsizes h B l
   unfolding sizes

@@ -31,6 +31,12 @@ unfolding sum
 sum-swap zero m f = sym (sum-of-zeros m (λ j q. refl))
 sum-swap (suc n) m f = ap (λ x. sum m (f n) + x) (sum-swap n m f) ∙ sym (sum-add m (f n) (λ j. sum n (λ i. f i j)))
 
+-- the first taken off
+pub sum-first : (n : ℕ) (f : ℕ → ℕ) → sum (suc n) f ≡ f 0 + sum n (λ i. f (suc i))
+unfolding sum
+sum-first zero f = refl
+sum-first (suc n) f = omega (arith, sum-first n f)
+
 pub sum-split : (a b : ℕ) (f : ℕ → ℕ) → sum (a + b) f ≡ sum a f + sum b (λ i. f (a + i))
 unfolding sum
 sum-split a zero f = rw (add-zero a) (omega arith)

@@ -1,17 +1,19 @@
 -- A node by its level and its index in the level, left to right from 0, and document 01's terms once more in these coordinates, in which
 -- all but "held" are inequalities between pages. `proofs/Bridge.antt` shows that they say the same; nothing but proofs uses them.
 use mathlib.Core.Path.{_≡_}
-use mathlib.Core.Bool.{Bool, true, false}
+use mathlib.Core.Bool.{Bool, true, false, _&&_}
 use Prim.Native.Nat.{ℕ, suc, _+_, _-_, _*_, _^_, _≤_, _<_}
 use lib.Dec.{leb, ltb}
 use Rattle.tree.specs.Node.{depth}
 use Rattle.tree.specs.Node as Node
-use Rattle.tree.specs.Held.{Nodes, both, count}
+use Rattle.tree.specs.Held.{Nodes, count}
 
+-- a block: a node by its level and its index there
 pub record Block : Type 0 where
   pub level : ℕ
   pub index : ℕ
 
+-- its first page, and the page after its last one
 abbrev pub first : Block → ℕ
 first b = b .index * 2 ^ b .level
 
@@ -26,15 +28,16 @@ node h b = 2 ^ (h - b .level) + b .index
 abbrev pub blockOf : ℕ → ℕ → Block
 blockOf h n = record { level = Node.level h n; index = n - 2 ^ depth n }
 
+-- a set of blocks
 abbrev pub Blocks : Type 0
 Blocks = Block → Bool
 
 -- a set of nodes as a set of blocks, and back
 abbrev pub blocksOf : ℕ → Nodes → Blocks
-blocksOf h A b = both (leb (past b) (2 ^ h)) (A (node h b))
+blocksOf h A b = leb (past b) (2 ^ h) && A (node h b)
 
 abbrev pub nodesOf : ℕ → Blocks → Nodes
-nodesOf h B n = both (both (ltb 0 n) (ltb n (2 ^ suc h))) (B (blockOf h n))
+nodesOf h B n = (ltb 0 n && ltb n (2 ^ suc h)) && B (blockOf h n)
 
 -- the blocks lie in a tree of height h
 abbrev pub BWithin : ℕ → Blocks → Type 0
@@ -56,6 +59,7 @@ pub record Inside (a b : Block) : Type 0 where
   pub from : first b ≤ first a
   pub to : past a ≤ past b
 
+-- legal, free, dense, tail, meager and safe, as in Held.antt
 abbrev pub BLegal : Blocks → Type 0
 BLegal B = (a b : Block) → B a ≡ true → B b ≡ true → Meet a b → a ≡ b
 

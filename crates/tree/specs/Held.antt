@@ -1,11 +1,12 @@
 -- Sets of held nodes, and document 01's terms for them, in its order. A set is any Boolean function of the node's number.
 use mathlib.Core.Path.{_≡_}
-use mathlib.Core.Bool.{Bool, true, false}
+use mathlib.Core.Bool.{Bool, true, false, _&&_}
 use mathlib.Core.Logic.{_⊎_}
 use Prim.Native.Nat.{ℕ, zero, suc, _+_, _^_, _<_}
 use lib.Dec.{eqb}
 use Rattle.tree.specs.Node.{InTree, Under, level, LeftOf}
 
+-- a set of nodes
 abbrev pub Nodes : Type 0
 Nodes = ℕ → Bool
 
@@ -51,10 +52,7 @@ pub record Safe (h : ℕ) (A : Nodes) : Type 0 where
   pub one-tail : (u t t′ : ℕ) → Held A u → Tail h A u t → Tail h A u t′ → t ≡ t′
   pub no-meager : (u x : ℕ) → Held A u → Meager h A (level h u) x → ¬ LeftOf h x u
 
-abbrev pub both : Bool → Bool → Bool
-both true b = b
-both false b = false
-
+-- 1 for true and 0 for false
 abbrev pub one-if : Bool → ℕ
 one-if true = 1
 one-if false = 0
@@ -67,4 +65,4 @@ count (suc n) p = one-if (p n) + count n p
 -- the number held at a level: the held nodes of the tree that have it
 unfoldable pub sizes : ℕ → Nodes → ℕ → ℕ
 unfolding count
-sizes h A l = count (2 ^ suc h) (λ n. both (A n) (eqb (level h n) l))
+sizes h A l = count (2 ^ suc h) (λ n. A n && eqb (level h n) l)

@@ -17,6 +17,7 @@ pub data Under : ℕ → ℕ → Type 0 where
   child : {m n : ℕ} → Child m n → Under m n
   deeper : {m c n : ℕ} → Under m c → Child c n → Under m n
 
+-- one more, unless the first number is 0
 abbrev pub oneMoreIf : ℕ → ℕ → ℕ
 oneMoreIf zero d = zero
 oneMoreIf (suc p) d = suc d

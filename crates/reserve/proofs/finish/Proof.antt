@@ -7,11 +7,11 @@ use borrow.Author.Needs.{needs}
 use Rattle.reserve.proofs.finish.Statement.{statement}
 use Rattle.reserve.proofs.finish.Tie as tie
 
-number-of-requires : tie.Need-number-of-requires
-number-of-requires c κs = search needs
+number-requires : tie.Need-number-requires
+number-requires c κs = search needs
 
-node-of-requires : tie.Need-node-of-requires
-node-of-requires c κs = search needs
+node-requires : tie.Need-node-requires
+node-requires c κs = search needs
 
 move-count-requires : tie.Need-move-count-requires
 move-count-requires c κs = search needs
@@ -22,15 +22,15 @@ cast-count c = search needs
 returns : tie.Need-returns
 returns c =
     let a = c .before .before .before .before .before .before .before .args in
-    let numbered = c .before .before .before .before .number-of in
-    report-refused (valueOf (a .called) (a .nodes .now)) (a .table .now) (a .moves .now) _ (numbered .ensures) (c .before .before .before .node-of .ensures)
+    let numbered = c .before .before .before .before .number in
+    report-refused (valueOf (a .called) (a .nodes .now)) (a .table .now) (a .moves .now) _ (numbered .ensures) (c .before .before .before .node .ensures)
     (c .before .move-count .ensures .0) (λ z. omega (arith, c .if1 .taken, numbered .ensures ∙ z))
 
 -- past the test the answer is 0
 accepted : (x : tie.Else1) → numberOf (x .before .before .before .before .before .before .before .args .called .answer) ≡ 0
 accepted x =
-    let zero : x .before .before .before .before .number-of .result ≡ 0 = omega (arith, x .if1 .left) in
-    sym (x .before .before .before .before .number-of .ensures) ∙ zero
+    let zero : x .before .before .before .before .number .result ≡ 0 = omega (arith, x .if1 .left) in
+    sym (x .before .before .before .before .number .ensures) ∙ zero
 
 encode-requires : tie.Need-encode-requires
 encode-requires c κs =
@@ -52,15 +52,15 @@ returns-2 : tie.Need-returns-2
 returns-2 c =
     let x = c .before .before .before .before .before .before .before .before in
     let a = x .before .before .before .before .before .before .before .args in
-    report-done (valueOf (a .called) (a .nodes .now)) (a .table .now) (a .moves .now) _ (sym (accepted x)) (x .before .before .before .node-of .ensures)
+    report-done (valueOf (a .called) (a .nodes .now)) (a .table .now) (a .moves .now) _ (sym (accepted x)) (x .before .before .before .node .ensures)
     (x .before .move-count .ensures .0) (accepted x) _ _ (c .before .before .before .before .before .before .encode .ensures) (c .before .before .put-moves .ensures)
 
 pub finish-spec : {M : Type 1} → statement M
 finish-spec =
     tie.close
     (tie.spec
-    number-of-requires
-    node-of-requires
+    number-requires
+    node-requires
     move-count-requires
     cast-count
     returns

@@ -18,8 +18,8 @@ slice-aggregate-open c = front-count (c .before .decode .ensures)
 open-requires : tie.Need-open-requires
 open-requires c κs = search needs
 
-number-of-requires : tie.Need-number-of-requires
-number-of-requires c κs = search needs
+number-requires : tie.Need-number-requires
+number-requires c κs = search needs
 
 same-length : tie.Need-same-length
 same-length c = search needs
@@ -31,14 +31,14 @@ kept x = search needs
 returns : tie.Need-returns
 returns c =
     let x = c .before .before .before in
-    let named = c .before .number-of .ensures in
+    let named = c .before .number .ensures in
     let d = x .before .before .decode .ensures in
     (open-answer (x .before .before .before .before .before .before .args .height) (x .«open» .result) d (kept x) (x .«open» .ensures) named, open-refused (x .before .before .before .before .before .before .args .height) (x .«open» .result) d (kept x) (x .«open» .ensures) named (c .if1 .taken))
 
 encode-requires : tie.Need-encode-requires
 encode-requires c κs =
     let x = c .before .before .before .before .before in
-    open-finishes (x .before .before .before .before .before .before .args .height) (x .«open» .result) (x .before .before .decode .ensures) (kept x) (x .«open» .ensures) (c .before .before .before .number-of .ensures) (c .before .before .if1 .left)
+    open-finishes (x .before .before .before .before .before .before .args .height) (x .«open» .result) (x .before .before .decode .ensures) (kept x) (x .«open» .ensures) (c .before .before .before .number .ensures) (c .before .before .if1 .left)
 
 same-length-2 : tie.Need-same-length-2
 same-length-2 c = search needs
@@ -46,7 +46,7 @@ same-length-2 c = search needs
 returns-2 : tie.Need-returns-2
 returns-2 c =
     let x = c .before .before .before .before .before .before .before .before in
-    let named = c .before .before .before .before .before .before .number-of .ensures in
+    let named = c .before .before .before .before .before .before .number .ensures in
     let zero = c .before .before .before .before .before .if1 .left in
     let d = x .before .before .decode .ensures in
     (sym zero ∙ open-answer (x .before .before .before .before .before .before .args .height) (x .«open» .result) d (kept x) (x .«open» .ensures) named, c .before .before .encode .ensures ∙ open-done (x .before .before .before .before .before .before .args .height) (x .«open» .result) d (kept x) (x .«open» .ensures) named zero)
@@ -59,7 +59,7 @@ reserve-open-spec =
     array-borrow-prefix-nodes
     slice-aggregate-open
     open-requires
-    number-of-requires
+    number-requires
     same-length
     returns
     encode-requires

@@ -54,13 +54,14 @@ placed-requires c κs =
     let i = c .before in
     omega (arith, placed-fits (long i) (i .loop-test .taken) (i .before .loop .inv .0), start-state (i .before .loop .s))
 
-marked-requires : tie.Need-marked-requires Inv-loop μ-loop
-marked-requires c κs =
-    let i = c .before .before in
-    let m = c .placed .result in
+mark-in-requires : tie.Need-mark-in-requires Inv-loop μ-loop
+mark-in-requires c κs =
+    let p = c .before in
+    let i = p .before .before in
+    let m = p .placed .result in
     let at-most : m .down ≤ i .before .loop .l = omega arith in
-    let fits = rw (← c .placed .ensures .0, start-state m) at (lone-fits (long i) (i .loop-test .taken) (i .before .loop .inv .0) (m .down) at-most) in
-    (omega arith, omega arith)
+    let fits = rw (← p .placed .ensures .0, start-state m) at (lone-fits (long i) (i .loop-test .taken) (i .before .loop .inv .0) (m .down) at-most) in
+    (omega arith, omega arith, i .before .loop .inv .0 .lones-long)
 
 risen-requires : tie.Need-risen-requires Inv-loop μ-loop
 risen-requires c κs = omega arith
@@ -73,11 +74,11 @@ loop-less c = omega arith
 
 loop-again : tie.Need-loop-again Inv-loop μ-loop
 loop-again c =
-    let i = c .before .before .before .before in
-    let a = i .before .loop in
-    let placed = c .before .before .placed .ensures in (
-      climbed-next (long i) (i .loop-test .taken) (a .inv .0) (start-state (a .s)) (c .before .before .before .running .ensures) (placed .0)
-          (c .before .marked .ensures) (c .risen .ensures .0),
+    let p = c .before .before .before in
+    let i = p .before .before in
+    let a = i .before .loop in (
+      climbed-next (long i) (i .loop-test .taken) (a .inv .0) (start-state (a .s)) (p .before .running .ensures) (p .placed .ensures .0)
+          (c .before .mark-in .ensures) (c .risen .ensures .0),
       omega arith,
     )
 
@@ -102,7 +103,7 @@ layout-spec =
     array-write-run
     cast-placed
     placed-requires
-    marked-requires
+    mark-in-requires
     risen-requires
     add-l
     loop-less
