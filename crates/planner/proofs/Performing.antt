@@ -1,5 +1,5 @@
 -- From what `run` hands back by value to what is reported and stands in the lists.
-use mathlib.Core.Path.{_≡_, refl, sym, ap, _∙_}
+use mathlib.Core.Path.{_≡_, sym, ap, _∙_}
 use mathlib.Core.List.{List, _++_}
 use Prim.Native.Nat.{ℕ, _≤_}
 use native.Mathlib.Omega.{arith}
@@ -8,17 +8,11 @@ use lib.Seq.{length-take-le}
 use Rattle.table.specs.declared.Move.{Move}
 use Rattle.table.specs.Plan.{movesIn}
 use Rattle.calls.specs.Step.{Outcome, step}
-use Rattle.calls.specs.Value.{valueOf}
+use Rattle.calls.specs.Value.{callOf, valueOf}
 use Rattle.calls.specs.declared.Called.{Called}
-use Rattle.calls.proofs.Entries.{entriesOf, moves-within}
-use Rattle.planner.specs.declared.Call.{Call}
-use Rattle.planner.specs.declared.Call.the-variants.{GrantLevel, GrantPages, Release}
-use Rattle.planner.specs.Performed.{callOf, Performed}
-
-entries-of : (c : Call) (m : ℕ) → entriesOf (callOf c m) ≡ m
-entries-of (GrantLevel t l) m = refl
-entries-of (GrantPages t p) m = refl
-entries-of (Release t) m = refl
+use Rattle.calls.proofs.Entries.{entries-of, moves-within}
+use Rattle.calls.specs.declared.Call.{Call}
+use Rattle.planner.specs.Performed.{Performed}
 
 module _ (h : ℕ) (c : Call) (T : List ℕ) (m : ℕ) (r : Called) (T′ : List ℕ) (four : length (r .plan .moves) ≡ 4)
     (met : (valueOf r T′ ≡ step h T (callOf c m)) × (r .plan .n ≤ 4)) where

@@ -4,18 +4,10 @@ use mathlib.Core.List.{List, _++_}
 use Prim.Native.Nat.{ℕ}
 use lib.ListN.{length, drop}
 use Rattle.table.specs.declared.Move.{Move}
-use Rattle.calls.specs.Call as Paper
 use Rattle.calls.specs.Step.{Outcome, step}
-use Rattle.calls.specs.Value.{numberOf, nodeIn}
-use Rattle.planner.specs.declared.Call.{Call}
-use Rattle.planner.specs.declared.Call.the-variants.{GrantLevel, GrantPages, Release}
+use Rattle.calls.specs.Value.{callOf, numberOf, nodeIn}
+use Rattle.calls.specs.declared.Call.{Call}
 use Rattle.planner.specs.declared.Report.{Report}
-
--- the papers' call, given the number of entries lent
-abbrev pub callOf : Call → ℕ → Paper.Call
-callOf (GrantLevel t l) m = Paper.grant-level t l m
-callOf (GrantPages t p) m = Paper.grant-pages t p m
-callOf (Release t) m = Paper.release t m
 
 -- r is the report of o, T′ the table afterwards, and M′ the list: the moves from the top, and the entries after them as they were in M.
 -- A refusal has no moves, so it leaves every entry.

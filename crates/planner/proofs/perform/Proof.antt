@@ -1,4 +1,4 @@
--- `planner::perform` meets its contract: a walk of its MIR, by hand. All that it knows of `run` and of `fill` is that each meets its contract. Each is called at its borrow's own lifetime, share and ghost name: both borrows are given up for good (`gave-slice`).
+-- `planner::perform` meets its contract: a walk of its MIR, by hand. All that it knows of `calls::run` and of `fill` is that each meets its contract. Each is called at its borrow's own lifetime, share and ghost name: both borrows are given up for good (`gave-slice`).
 use mathlib.Core.Path.{_≡_, refl, ap, subst}
 use mathlib.Core.List.{List, [], _∷_, _++_}
 use Prim.Native.Nat.{ℕ, _^_, _≤_, _<_}
@@ -43,23 +43,22 @@ use Rattle.table.proofs.Move as Mv
 use Rattle.table.proofs.plan.Plan as P
 use Rattle.table.proofs.plan.Plan.Laws as P′
 use Rattle.calls.specs.Step.{step}
-use Rattle.calls.specs.Value.{valueOf}
+use Rattle.calls.specs.Value.{callOf, valueOf}
 use Rattle.calls.specs.declared.Called.{Called}
 use Rattle.calls.proofs.Called as Cd
 use Rattle.calls.proofs.Called.Laws as Cd′
-use Rattle.planner.specs.declared.Call.{Call}
+use Rattle.calls.specs.declared.Call.{Call}
 use Rattle.planner.specs.declared.Report.{Report}
-use Rattle.planner.specs.Performed.{callOf}
-use Rattle.planner.proofs.Call as Cl
-use Rattle.planner.proofs.Call.Laws as Cl′
+use Rattle.calls.proofs.Call as Cl
+use Rattle.calls.proofs.Call.Laws as Cl′
 use Rattle.planner.proofs.Report as Rp
 use Rattle.planner.proofs.Report.Laws as Rp′
 use Rattle.planner.proofs.Performing.{moves-fit, performed}
-use Rattle.planner.proofs.Walk.{empty, full, word, plan-length, entries, list, val, let-go, answers, last-list}
-use Rattle.planner.proofs.run as ran
-use Rattle.planner.proofs.run.Symbol as ran-def
-use Rattle.planner.proofs.run.Symbol.{name as #planner·run}
-use Rattle.planner.proofs.run.Met as ran-thm
+use Rattle.planner.proofs.Walk.{empty, full, word, plan-length, entries, list, val, let-go, both, answers, last-list}
+use Rattle.calls.proofs.run as ran
+use Rattle.calls.proofs.run.Symbol as ran-def
+use Rattle.calls.proofs.run.Symbol.{name as #calls·run}
+use Rattle.calls.proofs.run.Met as ran-thm
 use Rattle.planner.proofs.fill as fill
 use Rattle.planner.proofs.fill.Symbol as fill-def
 use Rattle.planner.proofs.fill.Symbol.{name as #planner·fill}
@@ -177,7 +176,7 @@ module _ {M : Type 1} (𝓤 : URA M) (H : Heap 𝓤) (A : Atoms 𝓤) (W : Given
           move ! (29 ∷ 30 ∷ 27 ∷ 28 ∷ 25 ∷ 26 ∷ 23 ∷ 24 ∷ 21 ∷ 22 ∷ 19 ∷ 20 ∷ 17 ∷ 18 ∷ 15 ∷ 16 ∷ 13 ∷ 14 ∷ 11 ∷ 12 ∷ 9 ∷ 10 ∷ 7 ∷ 8 ∷ 5 ∷ 6 ∷ []) $
           let-go ! $ let-go ! $ let-go ! $ let-go ! $ let-go ! $ let-go ! $ let-go ! $ let-go ! $ let-go ! $ let-go ! $ let-go ! $ let-go ! $ let-go ! $ free0 ! $ keep ! (4 ∷ 1 ∷ 3 ∷ 0 ∷ []) $ by ! (exits (ws .1 .0) e len len′))))
 
-  walk : (𝓣 : Tables 𝓤 H) → Triple 𝓤 (𝓣 .C #planner·run) (Run 𝓤 H A mem run) → Triple 𝓤 (𝓣 .C #planner·fill) (Fill 𝓤 H A mem run)
+  walk : (𝓣 : Tables 𝓤 H) → Triple 𝓤 (𝓣 .C #calls·run) (Run 𝓤 H A mem run) → Triple 𝓤 (𝓣 .C #planner·fill) (Fill 𝓤 H A mem run)
       → ent 𝓤 (onEntry 𝓤 H A perform.signature (κ, (κ′, tt)) (q, (q′, tt)) a vals) (WpFn 𝓤 H (𝓣 .C) (𝓣 .Λ) code.function (vint w16 h ∷ vx ∷ vy ∷ vc ∷ []) Post)
   walk 𝓣 known-run known-fill =
       qed W ((‵ (flft κ q) ⊛ ‵ (flft κ′ q′) ⊛ ‵ ftrue) ∷ ‵ (owns (u16 ∷ MutSlice (named 0) κ u16 ∷ MutSlice (named 1) κ′ Mv.the-row ∷ Cl.the-row ∷ []) a vals) ∷ []) ∵
@@ -193,13 +192,13 @@ module _ {M : Type 1} (𝓤 : URA M) (H : Heap 𝓤) (A : Atoms 𝓤) (W : Given
       -- [a token; the other; what the list's borrow owns; what the table's borrow owns; _12; …]
       move ! (0 ∷ 3 ∷ []) $ use2 W (raw (Run 𝓤 H A mem run .pre to-run)) goes-run $
       calls-at ! (fmOf 𝓤 H (W .laws) 𝓣) (Run 𝓤 H A mem run) known-run to-run (and-then ! (val ! 25 refl) (and-then ! (val ! 11 refl) (and-then ! (val ! 9 refl) (and-then ! (val ! 19 refl) (no-more !))))) (λ v.
-      answers ! tt ran.ended (ran.clauses 𝓤 H A mem run) to-run v (λ r ws. (valueOf r (ws .1 .0) ≡ step h (x .now) (callOf c (length (y .now)))) × (r .plan .n ≤ 4)) (λ r ws. id⊢ 𝓤 _) (λ r ws met is. drop ! $
+      answers ! tt ran.ended (ran.clauses 𝓤 H A mem run) to-run v (λ r ws. (valueOf r (ws .1 .0) ≡ step h (x .now) (callOf c (length (y .now)))) × (r .plan .n ≤ 4)) (λ r ws. both 𝓤 _ _) (λ r ws met is. drop ! $
       land ! (from ! (stop !)) (init ! 18 refl (LL.lawful Cd.the-type Cd′.the-laws 𝓤 H A W .typed r _ is .0)) $
       rewrite ! 18 (λ (u : Val). ‵ (fat fullShare Cd′.mir l₅ 0 u)) (ap only (LL.tells Cd.the-type Cd′.the-laws r _ is)) refl $
       fsplit ! $ drop ! $ last-list ! (λ len. move ! (1 ∷ []) $ drop ! $ fills r (ws .1 .0) (subst (Is Cd.the-row r) (LL.tells Cd.the-type Cd′.the-laws r _ is) is) met 𝓣 known-fill l₀ l₁ l₂ l₃ l₄ l₅ l₆ l₇ l₈ l₉ l₁₀ l₁₁ l₁₂ len))))))))))))))))
 
 module _ {M : Type 1} (𝓤 : URA M) (H : Heap 𝓤) (A : Atoms 𝓤) (W : Given 𝓤 H A) (mem : Memory → SProp 𝓤) (run : Routine → Fun 𝓤) (𝓣 : Tables 𝓤 H)
-    (known-run : Triple 𝓤 (𝓣 .C #planner·run) (Run 𝓤 H A mem run)) (known-fill : Triple 𝓤 (𝓣 .C #planner·fill) (Fill 𝓤 H A mem run)) where
+    (known-run : Triple 𝓤 (𝓣 .C #calls·run) (Run 𝓤 H A mem run)) (known-fill : Triple 𝓤 (𝓣 .C #planner·fill) (Fill 𝓤 H A mem run)) where
   perform-walks : Walks 𝓤 H A perform.ended stayed (WpFn 𝓤 H (𝓣 .C) (𝓣 .Λ) code.function) (perform.clauses 𝓤 H A mem run)
   perform-walks = walked 𝓤 H A perform.ended stayed (perform.clauses 𝓤 H A mem run) (WpFn 𝓤 H (𝓣 .C) (𝓣 .Λ) code.function)
       (λ κs. (uint-vals w16, (slice-vals, (slice-vals, (EL.vals Cl.the-type Cl′.the-laws, tt)))))
@@ -224,5 +223,5 @@ perform-spec 𝓤 H 𝓜 𝓖 𝓡 =
     entered 𝓤 H (tripleOf 𝓤 H (𝓖 .A) perform.signature (perform.spec 𝓤 H (𝓖 .A) (𝓜 .mem) (𝓡 .run)))
     (tables 𝓤 H 𝓜 𝓡 code.env .C) (tables 𝓤 H 𝓜 𝓡 code.env .Λ) #planner·perform code.function (code.unfolded 𝓤 H 𝓜 𝓡)
     (perform-meets 𝓤 H (𝓖 .A) (givenOf 𝓤 H 𝓜 𝓖) (𝓜 .mem) (𝓡 .run) (tablesOf 𝓤 H 𝓜 (tables 𝓤 H 𝓜 𝓡 code.env))
-    (cited 𝓤 H (Run 𝓤 H (𝓖 .A) (𝓜 .mem) (𝓡 .run)) 𝓜 𝓡 code.env #planner·run ran-def.routine code.calls-planner·run (ran-thm.met 𝓤 H 𝓜 𝓖 𝓡))
+    (cited 𝓤 H (Run 𝓤 H (𝓖 .A) (𝓜 .mem) (𝓡 .run)) 𝓜 𝓡 code.env #calls·run ran-def.routine code.calls-calls·run (ran-thm.met 𝓤 H 𝓜 𝓖 𝓡))
     (cited 𝓤 H (Fill 𝓤 H (𝓖 .A) (𝓜 .mem) (𝓡 .run)) 𝓜 𝓡 code.env #planner·fill fill-def.routine code.calls-planner·fill (fill-thm.met 𝓤 H 𝓜 𝓖 𝓡)))

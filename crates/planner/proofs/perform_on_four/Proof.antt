@@ -51,11 +51,11 @@ use Rattle.calls.specs.Accepted.{nobody}
 use Rattle.calls.specs.declared.Called.{Called}
 use Rattle.calls.proofs.Called as Cd
 use Rattle.calls.proofs.Called.Laws as Cd′
-use Rattle.planner.specs.declared.Call.{Call}
+use Rattle.calls.specs.declared.Call.{Call}
 use Rattle.planner.specs.declared.Report.{Report}
 use Rattle.planner.specs.Performed.{Performed}
-use Rattle.planner.proofs.Call as Cl
-use Rattle.planner.proofs.Call.Laws as Cl′
+use Rattle.calls.proofs.Call as Cl
+use Rattle.calls.proofs.Call.Laws as Cl′
 use Rattle.planner.proofs.Report as Rp
 use Rattle.planner.proofs.Report.Laws as Rp′
 use Rattle.planner.proofs.ByValue.{by-value}
