@@ -26,8 +26,7 @@ pub fn survey(height: u16, table: &[u16], owner: &mut [u16; 8192]) -> Finding
     requires { ⌜ (height ≤ 12) × (length (now table) ≡ 4096) × (now owner ≡ replicate 8192 0) ⌝ }
     ensures { λ r. ⌜ Surveyed height (now (table .entry)) (now (owner .exit)) r ⌝ }
 {
-    let limit = 2 * layout::power(height);
-    if !owners(table, limit, owner) {
+    if !owners(height, table, owner) {
         return Finding {
             in_order: false,
             counts: Counts::none(),

@@ -1,16 +1,17 @@
 -- Laws of the owners by node: which nodes have an owner, and who that is.
-use mathlib.Core.Path.{_≡_, refl, sym, _∙_}
-use mathlib.Core.Bool.{Bool, true, false, _&&_, _||_, false≢true, and-eq-true-iff}
+use mathlib.Core.Path.{_≡_, refl, sym, ap₂, _∙_}
+use mathlib.Core.Bool.{Bool, true, false, _&&_, _||_, false≢true, and-eq-true-iff, and-true, and-assoc}
 use mathlib.Core.List.{List, [], _∷_}
-use Prim.Native.Nat.{ℕ, zero, suc, _+_, _≤_, _<_}
-use native.Mathlib.Nat.{zero-add}
+use Prim.Native.Nat.{ℕ, zero, suc, _+_, _^_, _≤_, _<_}
 use native.Mathlib.Omega.{arith}
 use native.Mathlib.Decide.{decLt}
 use borrow.Author.Tests.{lt-ltb, le-ltb, ltb-true, lt-leb, le-leb, eqb-true, eqb-false, ne-eqb}
 use lib.Dec.{ltb, leb, eqb}
+use lib.Bits.{bitOr, or-lt, or-add-and, and-le-l, and-le-r}
 use lib.ListN.{length, getD, set, drop, replicate, drop-of-length-le, length-set, length-replicate, getD-replicate, List·getD-eq-default}
+use lib.Pow.{pow-pos}
 use lib.Seq.{drop-cons, getD-set-same, getD-set-other}
-use Rattle.tree.specs.Held.{one-if}
+use Rattle.tree.proofs.Count.{equal-of-both-ways}
 use Rattle.table.specs.Table.{nodeOf, nodeAt, stands, occupied, tally}
 use Rattle.table.specs.Pairing.{ownerOf}
 use Rattle.table.specs.Owners.{nodes-below, ownersFrom, ownersOf}
@@ -28,19 +29,6 @@ unfolding ownersFrom
 owners-end o T i q = rw (drop-of-length-le T q)
 
 -- ---- every node is below the limit
-
--- that is: none is counted that is at least the limit
-pub below-if-none-past : (m : ℕ) (T : List ℕ) → eqb (tally (λ n. leb m n) T) 0 ≡ nodes-below m T
-unfolding nodes-below tally
-below-if-none-past m [] = refl
-below-if-none-past m (x ∷ T) = by-first (decLt (nodeOf x) m) (below-if-none-past m T)
-  where
-    by-first : Dec (nodeOf x < m) → eqb (tally (λ n. leb m n) T) 0 ≡ nodes-below m T
-        → eqb (one-if (leb m (nodeOf x)) + tally (λ n. leb m n) T) 0 ≡ (ltb (nodeOf x) m && nodes-below m T)
-    by-first (yes q) later = rw (lt-leb m (nodeOf x) q, lt-ltb (nodeOf x) m q, zero-add (tally (λ n. leb m n) T)) later
-    by-first (no q) later =
-        rw (le-leb m (nodeOf x) (omega arith), le-ltb (nodeOf x) m (omega arith))
-        (ne-eqb (1 + tally (λ n. leb m n) T) 0 (λ (e : 1 + tally (λ n. leb m n) T ≡ 0). omega arith))
 
 pub node-below : (m : ℕ) (T : List ℕ) → nodes-below m T ≡ true → (t : ℕ) → t < length T → nodeAt T t < m
 unfolding nodes-below
@@ -63,6 +51,39 @@ below-of-nodes m (x ∷ T) q = rw (lt-ltb (nodeOf x) m (q 0 (omega arith))) (bel
 
 pub below-mono : (m n : ℕ) (T : List ℕ) → m ≤ n → nodes-below m T ≡ true → nodes-below n T ≡ true
 below-mono m n T q e = below-of-nodes n T (λ t r. omega (arith, node-below m T e t r))
+
+-- ---- all at once, by the bits that any entry has
+
+-- a number with the bits of two is below a power of two exactly if both are
+or-below : (k a b : ℕ) → ltb (bitOr a b) (2 ^ k) ≡ (ltb a (2 ^ k) && ltb b (2 ^ k))
+or-below k a b = equal-of-both-ways (ltb (bitOr a b) (2 ^ k)) (ltb a (2 ^ k) && ltb b (2 ^ k)) to from
+  where
+    to : ltb (bitOr a b) (2 ^ k) ≡ true → (ltb a (2 ^ k) && ltb b (2 ^ k)) ≡ true
+    to e =
+        let q = ltb-true (bitOr a b) (2 ^ k) e in
+        let sum = or-add-and a b in
+        ap₂ _&&_ (lt-ltb a (2 ^ k) (omega (arith, and-le-r a b))) (lt-ltb b (2 ^ k) (omega (arith, and-le-l a b)))
+
+    from : (ltb a (2 ^ k) && ltb b (2 ^ k)) ≡ true → ltb (bitOr a b) (2 ^ k) ≡ true
+    from e =
+        let both = and-eq-true-iff (ltb a (2 ^ k)) (ltb b (2 ^ k)) .0 e in
+        lt-ltb (bitOr a b) (2 ^ k) (or-lt k a b (ltb-true a (2 ^ k) (both .0)) (ltb-true b (2 ^ k) (both .1)))
+
+-- the bits of the entries before i, and the entries from i on, tell of all
+abbrev pub BitsBefore : List ℕ → ℕ → ℕ → Type 0
+BitsBefore T i bits = (k : ℕ) → (ltb bits (2 ^ k) && nodes-below (2 ^ k) (drop i T)) ≡ nodes-below (2 ^ k) T
+
+pub bits-of-none : (T : List ℕ) → BitsBefore T 0 0
+bits-of-none T k = rw (lt-ltb 0 (2 ^ k) (pow-pos k))
+
+pub bits-with-next : (T : List ℕ) (i bits : ℕ) → i < length T → BitsBefore T i bits → BitsBefore T (suc i) (bitOr bits (nodeAt T i))
+unfolding nodes-below
+bits-with-next T i bits q before k =
+    rw (or-below k bits (nodeAt T i), and-assoc) (rw (drop-cons T i 0 q) at (before k))
+
+pub bits-of-all : (T : List ℕ) (i bits : ℕ) → length T ≤ i → BitsBefore T i bits → (k : ℕ) → ltb bits (2 ^ k) ≡ nodes-below (2 ^ k) T
+unfolding nodes-below
+bits-of-all T i bits q before k = rw (drop-of-length-le T q, and-true) at (before k)
 
 -- ---- who owns a node
 

@@ -4,12 +4,15 @@ use mathlib.Core.Bool.{Bool}
 use mathlib.Core.List.{List, [], _∷_, _++_}
 use Prim.Native.Nat.{ℕ, zero, suc, _+_, _≤_, _<_}
 use native.Mathlib.Omega.{arith}
+use borrow.Author.Tests.{lt-ltb, ne-eqb}
+use lib.Dec.{eqb, ltb}
 use lib.ListN.{length, take, drop, drop-of-length-le, length-take, length-drop}
 use lib.Seq.{drop-cons, take-suc, getD-drop}
 use Rattle.tree.specs.Held.{one-if}
 use Rattle.tree.specs.Pages.{sum}
 use Rattle.tree.proofs.Sum.{one-if-le-one}
 use Rattle.table.specs.Table.{nodeOf, nodeAt, tally}
+use Rattle.table.specs.Owners.{usedIn}
 
 pub tally-le-length : (p : ℕ → Bool) (T : List ℕ) → tally p T ≤ length T
 unfolding tally
@@ -18,6 +21,16 @@ tally-le-length p (e ∷ T) = omega (arith, one-if-le-one (p (nodeOf e)), tally-
 
 pub tally-take-le : (p : ℕ → Bool) (n : ℕ) (T : List ℕ) → tally p (take n T) ≤ n
 tally-take-le p n T = omega (arith, tally-le-length p (take n T), length-take n T)
+
+-- an entry is used, or 0
+used-or-zero : (n : ℕ) → one-if (ltb 0 n) + one-if (eqb n 0) ≡ 1
+used-or-zero zero = refl
+used-or-zero (suc n) = rw (lt-ltb 0 (suc n) (omega arith), ne-eqb (suc n) 0 (omega arith))
+
+pub used-and-zeros : (T : List ℕ) → usedIn T + tally (λ n. eqb n 0) T ≡ length T
+unfolding tally
+used-and-zeros [] = refl
+used-and-zeros (e ∷ T) = omega (arith, used-or-zero (nodeOf e), used-and-zeros T)
 
 -- from an index on
 pub tally-from : (p : ℕ → Bool) (T : List ℕ) (i : ℕ) → i < length T → tally p (drop i T) ≡ one-if (p (nodeAt T i)) + tally p (drop (suc i) T)

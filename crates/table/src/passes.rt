@@ -1,40 +1,53 @@
 // Passes over the table by tenant, and over the owners by node: how many entries are used, who holds which node, and the nodes held by level.
 ghost use mathlib.Core.Path.{_≡_};
 ghost use mathlib.Core.Bool.{true};
-ghost use Prim.Native.Nat.{_≤_};
-ghost use lib.Dec.{leb};
+ghost use Prim.Native.Nat.{ℕ, suc, _^_, _≤_};
+ghost use lib.Dec.{eqb, ltb};
 ghost use lib.ListN.{length};
 ghost use Rattle.tree.specs.Held.{one-if};
 ghost use Rattle.table.specs.Table.{tally};
 ghost use Rattle.table.specs.Owners.{nodes-below, ownersFrom, usedIn, levelCounts};
 
-// One for an entry that is at least the limit.
-fn one_if_from(limit: u16, entry: u16) -> u16
-    ensures { λ r. ⌜ r ≡ one-if (leb limit entry) ⌝ }
+// One for an entry that is 0.
+fn one_if_zero(entry: u16) -> u16
+    ensures { λ r. ⌜ r ≡ one-if (eqb entry 0) ⌝ }
 {
-    if limit <= entry { 1 } else { 0 }
+    if entry == 0 { 1 } else { 0 }
 }
 
-// How many entries are at least the limit.
-fn count_from(limit: u16, part: &[u16]) -> u16
+// How many entries are 0.
+fn zeros(part: &[u16]) -> u16
     requires { ⌜ length (now part) ≤ 8192 ⌝ }
-    ensures { λ r. ⌜ r ≡ tally (λ n. leb limit n) (now (part .entry)) ⌝ }
+    ensures { λ r. ⌜ r ≡ tally (λ n. eqb n 0) (now (part .entry)) ⌝ }
 {
     let mut n: u16 = 0;
     let mut i = 0;
     while i < part.len() {
-        n += one_if_from(limit, part[i]);
+        n += one_if_zero(part[i]);
         i += 1;
     }
     n
 }
 
-// How many entries are not 0.
+// How many entries are not 0. To count those that are takes the processor fewer steps.
 pub fn used(part: &[u16]) -> usize
     requires { ⌜ length (now part) ≤ 8192 ⌝ }
     ensures { λ r. ⌜ r ≡ usedIn (now (part .entry)) ⌝ }
 {
-    count_from(1, part) as usize
+    part.len() - zeros(part) as usize
+}
+
+// The bits that any entry has: a number that is below a power of two exactly if all entries are.
+fn any_bits(part: &[u16]) -> u16
+    ensures { λ r. ⌜ ((k : ℕ) → ltb r (2 ^ k) ≡ nodes-below (2 ^ k) (now (part .entry))) ⌝ }
+{
+    let mut bits: u16 = 0;
+    let mut i = 0;
+    while i < part.len() {
+        bits = bits | part[i];
+        i += 1;
+    }
+    bits
 }
 
 // Stores each tenant's number and one at its node, in the tenants' order.
@@ -50,14 +63,15 @@ fn store(table: &[u16], owner: &mut [u16; 8192])
     }
 }
 
-// Whether every node is below the limit; if so, each node of the table has its owner stored. That all nodes are tested before the first
-// is stored makes both passes faster.
-pub fn owners(table: &[u16], limit: u16, owner: &mut [u16; 8192]) -> bool
-    requires { ⌜ (length (now table) ≤ 4096) × (limit ≤ 8192) ⌝ }
-    ensures below { λ r. ⌜ r ≡ nodes-below limit (now (table .entry)) ⌝ }
+// Whether no node lies past a tree of this height; if so, each node of the table has its owner stored. That all nodes are tested before the
+// first is stored makes both passes faster.
+pub fn owners(height: u16, table: &[u16], owner: &mut [u16; 8192]) -> bool
+    requires { ⌜ (length (now table) ≤ 4096) × (height ≤ 12) ⌝ }
+    ensures below { λ r. ⌜ r ≡ nodes-below (2 ^ suc height) (now (table .entry)) ⌝ }
     ensures stored { λ r. ⌜ (r ≡ true → now (owner .exit) ≡ ownersFrom (now (owner .entry)) 0 (now (table .entry))) ⌝ }
 {
-    if count_from(limit, table) == 0 {
+    let limit = 2 * layout::power(height);
+    if any_bits(table) < limit {
         store(table, owner);
         return true;
     }

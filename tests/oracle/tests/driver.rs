@@ -10,11 +10,16 @@ use oracle::random::Random;
 use oracle::shrink::shorten;
 use oracle::subject::{Oracle, Subject};
 
+/// The tally of a planner, and the report as text.
+fn reported(subject: &mut dyn Subject, amounts: &Amounts) -> (Tally, String) {
+    let mut report = Vec::new();
+    let tally = run(subject, amounts, &mut report).expect("a report in memory");
+    (tally, String::from_utf8(report).expect("a report is plain text"))
+}
+
 #[test]
 fn the_second_planner_agrees_with_itself() {
-    let mut report = Vec::new();
-    let tally = run(&mut Oracle, &Amounts::quick(21), &mut report).expect("a report in memory");
-    let report = String::from_utf8(report).expect("a report is plain text");
+    let (tally, report) = reported(&mut Oracle, &Amounts::quick(21));
     assert_eq!(tally, Tally { passed: 9, failed: 0 }, "{report}");
     assert!(
         report.lines().all(|line| line.ends_with("comparisons, seed 21")),
@@ -31,46 +36,29 @@ fn assert_found(faults: &[Fault], parts: &[&str]) {
     }
 }
 
-#[test]
-fn wrong_places_are_found() {
-    assert_found(&Fault::PLACES, &["every counts vector"]);
+/// A test for each group of mistakes, with the parts that have to find them.
+macro_rules! found {
+    ($($(#[$words:meta])* $name:ident: $faults:expr, $parts:expr;)+) => {
+        $(
+            $(#[$words])*
+            #[test]
+            fn $name() {
+                assert_found(&$faults, &$parts);
+            }
+        )+
+    };
 }
 
-#[test]
-fn wrong_reports_are_found() {
-    assert_found(&Fault::REPORTS, &["every counts vector"]);
-}
-
-#[test]
-fn wrong_refusals_are_found() {
-    let parts = [
-        "edges of the arguments",
-        "every counts vector",
-        "histories",
-        "damaged tables",
-    ];
-    assert_found(&Fault::REFUSALS, &parts);
-}
-
-#[test]
-fn wrong_maps_are_found() {
-    assert_found(&Fault::MAPS, &["maps"]);
-}
-
-#[test]
-fn wrong_readings_and_writings_are_found() {
-    assert_found(&Fault::JOURNALS, &["journal records", "journals"]);
-}
-
-#[test]
-fn wrong_listings_are_found() {
-    assert_found(&Fault::LISTINGS, &["journals"]);
-}
-
-/// Histories alone are enough as well, without the start from a prepared table.
-#[test]
-fn wrong_places_are_found_in_histories() {
-    assert_found(&Fault::PLACES, &["histories"]);
+found! {
+    wrong_places_are_found: Fault::PLACES, ["every counts vector"];
+    wrong_reports_are_found: Fault::REPORTS, ["every counts vector"];
+    wrong_refusals_are_found: Fault::REFUSALS,
+        ["edges of the arguments", "every counts vector", "histories", "damaged tables"];
+    wrong_maps_are_found: Fault::MAPS, ["maps"];
+    wrong_readings_and_writings_are_found: Fault::JOURNALS, ["journal records", "journals"];
+    wrong_listings_are_found: Fault::LISTINGS, ["journals"];
+    /// Histories alone are enough as well, without the start from a prepared table.
+    wrong_places_are_found_in_histories: Fault::PLACES, ["histories"];
 }
 
 /// The driver respects how far a door reaches.
@@ -82,8 +70,8 @@ fn no_number_is_handed_over_that_the_door_cannot_take() {
         full_reserves: 200,
         ..Amounts::quick(25)
     };
-    let tally = run(&mut Narrow, &amounts, &mut Vec::new()).expect("a report in memory");
-    assert_eq!(tally, Tally { passed: 9, failed: 0 });
+    let (tally, report) = reported(&mut Narrow, &amounts);
+    assert_eq!(tally, Tally { passed: 9, failed: 0 }, "{report}");
 }
 
 #[test]
@@ -134,13 +122,11 @@ fn a_failing_history_is_shown_short() {
 
 #[test]
 fn a_finding_names_the_seed_and_the_calls() {
-    let mut report = Vec::new();
     let amounts = Amounts {
         tallest_for_all_counts: 0,
         ..Amounts::quick(24)
     };
-    let tally = run(&mut ThirdOfItsSize, &amounts, &mut report).expect("a report in memory");
-    let report = String::from_utf8(report).expect("a report is plain text");
+    let (tally, report) = reported(&mut ThirdOfItsSize, &amounts);
     assert!(tally.failed >= 2, "{report}");
     let part = report
         .split("histories: different, seed 24\n")

@@ -1,5 +1,7 @@
 //! Histories of the second planner, each call held against the book, the audit and the definitions.
 
+mod small;
+
 use std::collections::{BTreeMap, BTreeSet};
 
 use oracle::audit::{audit, Seen, MOST_FOR_GRANT, MOST_FOR_RELEASE};
@@ -9,6 +11,7 @@ use oracle::generate::{any_fill, history, history_on_full, holders_for, seat, st
 use oracle::planner::{self, Lent, Outcome, Request, TENANTS};
 use oracle::random::Random;
 use oracle::subject::{Oracle, Reach, Subject, MOVE_BYTES};
+use small::{trees, trees_with_counts};
 
 fn reach() -> Reach {
     Oracle.reach()
@@ -76,49 +79,54 @@ fn run(history: &History, seldom: &mut Seldom) -> Vec<Node> {
     table
 }
 
+/// Histories drawn from a seed and run, with what turned up in them.
+struct Trial {
+    random: Random,
+    seldom: Seldom,
+}
+
+impl Trial {
+    fn new(seed: u64) -> Self {
+        Trial {
+            random: Random::new(seed),
+            seldom: Seldom::default(),
+        }
+    }
+
+    fn after_opening(&mut self, height: u32, calls: usize) {
+        let (history, _) = history(&mut self.random, reach(), height, calls);
+        run(&history, &mut self.seldom);
+    }
+
+    fn on_full(&mut self, height: u32, calls: usize) {
+        let history = history_on_full(&mut self.random, reach(), height, calls);
+        run(&history, &mut self.seldom);
+    }
+}
+
 /// Up to height 5 the book judges the places by the bare definitions after every single call.
 #[test]
 fn small_histories_stay_safe() {
-    let seed = 11;
-    let mut random = Random::new(seed);
-    let mut seldom = Seldom::default();
-    for round in 0..240 {
-        let (history, _) = history(&mut random, reach(), round % 6, 60);
-        run(&history, &mut seldom);
-    }
-    for round in 0..240 {
-        let history = history_on_full(&mut random, reach(), round % 6, 12);
-        run(&history, &mut seldom);
-    }
+    let mut trial = Trial::new(11);
+    (0..240).for_each(|round| trial.after_opening(round % 6, 60));
+    (0..240).for_each(|round| trial.on_full(round % 6, 12));
 }
 
 #[test]
 fn large_histories_keep_the_layout() {
-    let seed = 12;
-    let mut random = Random::new(seed);
-    let mut seldom = Seldom::default();
+    let mut trial = Trial::new(12);
     for height in 6..=TALLEST {
-        for _ in 0..4 {
-            let (history, _) = history(&mut random, reach(), height, 400);
-            run(&history, &mut seldom);
-        }
-        for _ in 0..20 {
-            let history = history_on_full(&mut random, reach(), height, 20);
-            run(&history, &mut seldom);
-        }
+        (0..4).for_each(|_| trial.after_opening(height, 400));
+        (0..20).for_each(|_| trial.on_full(height, 20));
     }
 }
 
 /// Made-up histories are worth little if they never come near the edge.
 #[test]
 fn histories_reach_every_answer_and_the_most_moves() {
-    let seed = 13;
-    let mut random = Random::new(seed);
-    let mut seldom = Seldom::default();
-    for round in 0..520 {
-        let (history, _) = history(&mut random, reach(), round % (TALLEST + 1), 50);
-        run(&history, &mut seldom);
-    }
+    let mut trial = Trial::new(13);
+    (0..520).for_each(|round| trial.after_opening(round % (TALLEST + 1), 50));
+    let seldom = trial.seldom;
     let total: usize = seldom.answers.values().sum();
     for answer in [0, 3, 4, 5, 6, 8, 9, 10] {
         let share = seldom.answers.get(&answer).copied().unwrap_or_default();
@@ -136,33 +144,27 @@ fn every_grant_and_release_up_to_height_5() {
     let mut random = Random::new(14);
     let mut most_for_grant = 0;
     let mut most_for_release = 0;
-    for height in 0..=5 {
-        let tree = Tree::new(height);
-        for counts in tree.every_fitting_counts() {
-            let holders = holders_for(&mut random, &counts);
-            let table = seat(tree, &holders);
-            let book = Book::of_table(tree, &table);
-            let newcomer = (0..TENANTS)
-                .find(|&tenant| table[tenant] == 0)
-                .expect("a tenant without a block") as u32;
-            for level in tree.levels() {
-                let tenant = newcomer;
-                let call = Call {
-                    request: Request::GrantLevel { tenant, level },
-                    move_bytes: 24,
-                };
-                let outcome = checked_call(&mut book.clone(), &table, &call);
-                most_for_grant = outcome.moves.len().max(most_for_grant);
-            }
-            for holder in &holders {
-                let tenant = holder.tenant.into();
-                let call = Call {
-                    request: Request::Release { tenant },
-                    move_bytes: 24,
-                };
-                let outcome = checked_call(&mut book.clone(), &table, &call);
-                most_for_release = outcome.moves.len().max(most_for_release);
-            }
+    for (tree, counts) in trees_with_counts(0..=5) {
+        let holders = holders_for(&mut random, &counts);
+        let table = seat(tree, &holders);
+        let book = Book::of_table(tree, &table);
+        let moves = |request| {
+            let call = Call {
+                request,
+                move_bytes: 24,
+            };
+            checked_call(&mut book.clone(), &table, &call).moves.len()
+        };
+        let newcomer = (0..TENANTS)
+            .find(|&tenant| table[tenant] == 0)
+            .expect("a tenant without a block") as u32;
+        for level in tree.levels() {
+            let tenant = newcomer;
+            most_for_grant = moves(Request::GrantLevel { tenant, level }).max(most_for_grant);
+        }
+        for holder in &holders {
+            let tenant = holder.tenant.into();
+            most_for_release = moves(Request::Release { tenant }).max(most_for_release);
         }
     }
     assert_eq!((most_for_grant, most_for_release), (MOST_FOR_GRANT, MOST_FOR_RELEASE));
@@ -186,7 +188,7 @@ fn equal_holdings_mean_equal_places() {
 
 /// Whether a table may stay as it is, by the definitions alone.
 fn is_in_order(tree: Tree, table: &[Node]) -> bool {
-    let held: Vec<Node> = table.iter().copied().filter(|&node| node != 0).collect();
+    let held = occupied(table);
     held.iter().all(|&node| node <= tree.last_node()) && is_legal(&held) && tree.is_safe(&held)
 }
 
@@ -202,8 +204,7 @@ fn answer_of_release(tree: Tree, table: &[Node]) -> u32 {
 /// Refusal 7 for all tables of three tenants on the small trees.
 #[test]
 fn all_small_tables_are_judged_as_by_the_definitions() {
-    for height in 0..=3 {
-        let tree = Tree::new(height);
+    for tree in trees(0..=3) {
         let mut table = vec![0; TENANTS];
         let entries: Vec<Node> = (0..=tree.last_node() + 2).collect();
         for &first in &entries {
@@ -214,7 +215,8 @@ fn all_small_tables_are_judged_as_by_the_definitions() {
                     assert_eq!(
                         answer_of_release(tree, &table),
                         due,
-                        "height {height}: {:?}",
+                        "height {}: {:?}",
+                        tree.height(),
                         &table[..3]
                     );
                 }

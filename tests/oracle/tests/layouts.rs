@@ -1,10 +1,11 @@
 //! The definitions against themselves on small trees, and the lifting rule against the definitions.
 
-use std::collections::BTreeMap;
+mod small;
 
 use oracle::definitions::{depth, families, is_free, is_legal, is_meager, is_under, Counts, Family, Tree};
 use oracle::lifting::layout;
 use oracle::random::Random;
+use small::{trees, trees_with_counts};
 
 /// Every counts vector with up to one block more at each level than the level has nodes.
 fn every_counts(tree: Tree) -> Vec<Counts> {
@@ -29,8 +30,15 @@ fn fits(tree: Tree, counts: &Counts) -> bool {
     tree.pages_taken(counts) <= tree.pages_in_all()
 }
 
-fn families_from_all_sets(tree: Tree) -> BTreeMap<Counts, Family> {
-    families(tree, tree.every_set().filter(|set| is_legal(set)))
+/// Every counts vector up to height 3, fitting or not, with the family that all sets give it; without a legal set that is
+/// an empty one.
+fn every_family() -> impl Iterator<Item = (Tree, Counts, Family)> {
+    trees(0..=3).flat_map(|tree| {
+        let mut families = families(tree, tree.every_set().filter(|set| is_legal(set)));
+        every_counts(tree)
+            .into_iter()
+            .map(move |counts| (tree, counts, families.remove(&counts).unwrap_or_default()))
+    })
 }
 
 #[test]
@@ -75,8 +83,7 @@ fn a_second_tail_or_a_meager_tree_in_front_is_not_safe() {
 
 #[test]
 fn both_enumerations_find_the_same_legal_sets() {
-    for height in 0..=3 {
-        let tree = Tree::new(height);
+    for tree in trees(0..=3) {
         let mut by_filter: Vec<_> = tree.every_set().filter(|set| is_legal(set)).collect();
         let mut by_halves = tree.every_legal_set();
         by_halves.iter_mut().for_each(|set| set.sort_unstable());
@@ -89,14 +96,9 @@ fn both_enumerations_find_the_same_legal_sets() {
 /// "No room" means that no legal set exists, and wherever one exists just one is safe.
 #[test]
 fn one_safe_set_exactly_where_the_pages_fit() {
-    for height in 0..=3 {
-        let tree = Tree::new(height);
-        let families = families_from_all_sets(tree);
-        for counts in every_counts(tree) {
-            let family = families.get(&counts).cloned().unwrap_or_default();
-            assert_eq!(family.legal > 0, fits(tree, &counts), "{counts:?}");
-            assert_eq!(family.safe.len(), usize::from(fits(tree, &counts)), "{counts:?}");
-        }
+    for (tree, counts, family) in every_family() {
+        assert_eq!(family.legal > 0, fits(tree, &counts), "{counts:?}");
+        assert_eq!(family.safe.len(), usize::from(fits(tree, &counts)), "{counts:?}");
     }
 }
 
@@ -115,24 +117,16 @@ fn one_safe_set_for_all_counts_at_height_4() {
 
 #[test]
 fn lifting_finds_the_one_safe_set_up_to_height_3() {
-    for height in 0..=3 {
-        let tree = Tree::new(height);
-        let families = families_from_all_sets(tree);
-        for counts in every_counts(tree) {
-            let safe = families.get(&counts).and_then(|family| family.safe.first());
-            assert_eq!(layout(tree, &counts).as_ref(), safe, "{counts:?}");
-        }
+    for (tree, counts, family) in every_family() {
+        assert_eq!(layout(tree, &counts).as_ref(), family.safe.first(), "{counts:?}");
     }
 }
 
 #[test]
 fn fitting_counts_are_counted_right() {
-    let numbers: Vec<usize> = (0..=5)
-        .map(|height| Tree::new(height).every_fitting_counts().len())
-        .collect();
+    let numbers: Vec<usize> = trees(0..=5).map(|tree| tree.every_fitting_counts().len()).collect();
     // For heights 0 to 3 the number can be had from the bare list of vectors as well.
-    for (height, &number) in (0..=3).zip(&numbers) {
-        let tree = Tree::new(height);
+    for (tree, &number) in trees(0..=3).zip(&numbers) {
         let by_filter = every_counts(tree).iter().filter(|counts| fits(tree, counts)).count();
         assert_eq!(number, by_filter);
     }
@@ -149,15 +143,12 @@ fn assert_layout_is_the_safe_one(tree: Tree, counts: &Counts) {
 
 #[test]
 fn lifting_is_safe_for_all_counts_at_heights_4_and_5() {
-    for height in 4..=5 {
-        let tree = Tree::new(height);
-        for counts in tree.every_fitting_counts() {
-            assert_layout_is_the_safe_one(tree, &counts);
-            for level in tree.levels() {
-                let mut more = counts;
-                more[level as usize] += 1;
-                assert_eq!(layout(tree, &more).is_some(), fits(tree, &more), "{more:?}");
-            }
+    for (tree, counts) in trees_with_counts(4..=5) {
+        assert_layout_is_the_safe_one(tree, &counts);
+        for level in tree.levels() {
+            let mut more = counts;
+            more[level as usize] += 1;
+            assert_eq!(layout(tree, &more).is_some(), fits(tree, &more), "{more:?}");
         }
     }
 }

@@ -2,43 +2,27 @@
 use mathlib.Core.Path.{_≡_, sym, ap, _∙_}
 use mathlib.Core.Bool.{true, false≢true}
 use mathlib.Core.List.{List}
-use Prim.Native.Nat.{ℕ, suc, _*_, _^_, _≤_}
-use native.Mathlib.Nat.{pow-suc}
+use Prim.Native.Nat.{ℕ}
 use native.Mathlib.Omega.{arith}
 use borrow.Author.Needs.{needs}
 use borrow.Author.Tests.{not-true, not-false}
 use denote.Ref.{now}
-use Rattle.layout.proofs.Bounds.{power-le-4096}
 use Rattle.table.specs.Owners.{ownersFrom, levelCounts}
 use Rattle.survey.specs.Survey.{Gathered}
 use Rattle.survey.proofs.Gathered.{past-tree-not-in-order, counts-if-in-order}
 use Rattle.survey.proofs.survey.Statement.{statement}
 use Rattle.survey.proofs.survey.Tie as tie
 
-power-requires : tie.Need-power-requires
-power-requires c κs = search needs
-
--- a height of at most 12 has at most 4,096 pages
-power-bound : (c : tie.After-power) → c .power .result ≤ 4096
-power-bound c = rw (c .power .ensures) (power-le-4096 (c .before .before .args .height) (omega arith))
-
-mul-limit : tie.Need-mul-limit
-mul-limit c = omega (arith, power-bound c)
-
 owners-requires : tie.Need-owners-requires
-owners-requires c κs = omega (arith, power-bound (c .before))
+owners-requires c κs = search needs
 
 none-requires : tie.Need-none-requires
 none-requires c κs = search needs
 
-limit-is : (c : tie.After-power) → 2 * c .power .result ≡ 2 ^ suc (c .before .before .args .height)
-limit-is c = rw (c .power .ensures, pow-suc) (omega arith)
-
 returns : tie.Need-returns
 returns c =
-    let a = c .before .before .before .before .before .before .args in
-    let owners = c .before .before .owners in
-    let past = rw (limit-is (c .before .before .before .before)) at (sym (owners .ensures .0) ∙ not-true _ (c .before .if1 .taken)) in
+    let a = c .before .before .before .before .before .args in
+    let past = sym (c .before .before .owners .ensures .0) ∙ not-true _ (c .before .if1 .taken) in
     record {
       in-order = past-tree-not-in-order (a .height) (now (a .table)) (omega arith) past;
       counts = λ e. absurd (false≢true e);
@@ -49,17 +33,17 @@ level-counts-requires : tie.Need-level-counts-requires
 level-counts-requires c κs = search needs
 
 -- where no node lies past the tree, the owners by node are stored
-gathered : (c : tie.Else1) (cs : List ℕ) → cs ≡ levelCounts (c .before .before .before .before .before .args .height) (c .before .owners .last .1 .1 .0)
-    → Gathered (c .before .before .before .before .before .args .height) (now (c .before .before .before .before .before .args .table)) cs
+gathered : (c : tie.Else1) (cs : List ℕ) → cs ≡ levelCounts (c .before .before .before .before .args .height) (c .before .owners .last .1 .1 .0)
+    → Gathered (c .before .before .before .before .args .height) (now (c .before .before .before .before .args .table)) cs
     (c .before .owners .last .1 .1 .0)
 gathered c cs counted =
-    let start = c .before .before .before .before .before in
+    let start = c .before .before .before .before in
     let owners = c .before .owners in
     let all-below : owners .result ≡ true = not-false _ (c .if1 .left) in
     record {
       low = omega arith;
       tenants = omega arith;
-      below = rw (limit-is (c .before .before .before)) at (sym (owners .ensures .0) ∙ all-below);
+      below = sym (owners .ensures .0) ∙ all-below;
       owners = owners .ensures .1 all-below ∙ ap (λ (o : List ℕ). ownersFrom o 0 (now (start .args .table))) (start .pre .2);
       counts = counted;
     }
@@ -80,8 +64,6 @@ pub survey-spec : {M : Type 1} → statement M
 survey-spec =
     tie.close
     (tie.spec
-    power-requires
-    mul-limit
     owners-requires
     none-requires
     returns

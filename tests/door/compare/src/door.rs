@@ -155,6 +155,13 @@ impl Subject for Door {
 
     fn read(&mut self, journal: &[u8], offset: usize) -> Reading {
         let read = unsafe { reserve_read(journal.as_ptr(), journal.len(), offset) };
+        if read.answer != 0 || read.kind == 0 {
+            assert_eq!(
+                [read.kind, read.who, read.size],
+                [0; 3],
+                "no record at {offset}, but its fields"
+            );
+        }
         if read.answer != 0 {
             return Reading::Refused {
                 number: read.answer.into(),
@@ -162,6 +169,7 @@ impl Subject for Door {
             };
         }
         if read.kind == 0 {
+            assert_eq!(read.offset, offset, "the end is reported elsewhere than asked");
             return Reading::End;
         }
         Reading::Record {

@@ -1,5 +1,7 @@
 //! Opening, granting and releasing: single calls, histories, and pairs of them.
 
+use std::fmt;
+
 use super::lent::{pattern, Lent};
 use super::maps::same_map;
 use super::Amounts;
@@ -19,7 +21,7 @@ const ENOUGH: usize = FEWEST_ENTRIES * MOVE_BYTES;
 /// What both planners made of a call.
 pub struct Same {
     reply: Reply,
-    table: Vec<u8>,
+    pub table: Vec<u8>,
     moves: Vec<u8>,
 }
 
@@ -57,6 +59,12 @@ pub fn same_opening(subject: &mut dyn Subject, height: u32, table: &[u8]) -> Res
 pub struct Failure {
     pub call: usize,
     pub finding: String,
+}
+
+impl fmt::Display for Failure {
+    fn fmt(&self, f: &mut fmt::Formatter) -> fmt::Result {
+        write!(f, "call {}: {}", self.call, self.finding)
+    }
 }
 
 /// Runs a history on both planners. What they agree on is then held against the book and the audit, which would notice
@@ -111,9 +119,18 @@ fn check_history(subject: &mut dyn Subject, history: &History) -> Result<Vec<Nod
     same_history(subject, history).map_err(|failure| explain(subject, history, &failure))
 }
 
+/// A failing history in its shortest form found, in words.
+fn explain(subject: &mut dyn Subject, history: &History, failure: &Failure) -> String {
+    let short = shortened(subject, history, failure);
+    match same_history(subject, &short) {
+        Err(failure) => format!("{short}  {failure}"),
+        Ok(_) => format!("{history}  {failure}"),
+    }
+}
+
 /// Shortens a failing history: nothing after the failure, a smaller tree if that fails too, fewer holders at the start
 /// and fewer calls.
-fn explain(subject: &mut dyn Subject, history: &History, failure: &Failure) -> String {
+pub fn shortened(subject: &mut dyn Subject, history: &History, failure: &Failure) -> History {
     let mut short = history.clone();
     let mut fails = |history: &History| same_history(subject, history).is_err();
     short.calls.truncate(failure.call);
@@ -142,10 +159,7 @@ fn explain(subject: &mut dyn Subject, history: &History, failure: &Failure) -> S
         });
         short.start = Some(holders);
     }
-    match same_history(subject, &short) {
-        Err(failure) => format!("{short}  call {}: {}", failure.call, failure.finding),
-        Ok(_) => format!("{history}  call {}: {}", failure.call, failure.finding),
-    }
+    short
 }
 
 /// Every counts vector of the small trees, with every grant and every release.
@@ -293,7 +307,8 @@ fn check_damaged(
     }
 }
 
-fn table_with(entries: &[(usize, Node)]) -> Vec<Node> {
+/// The table in which the given tenants have the given nodes.
+pub fn table_with(entries: &[(usize, Node)]) -> Vec<Node> {
     let mut table = vec![0; TENANTS];
     for &(tenant, node) in entries {
         table[tenant] = node;
@@ -301,7 +316,8 @@ fn table_with(entries: &[(usize, Node)]) -> Vec<Node> {
     table
 }
 
-fn show_table(tree: Tree, table: &[Node]) -> String {
+/// A table in words.
+pub fn show_table(tree: Tree, table: &[Node]) -> String {
     let mut text = format!("  height {}, table (tenant:node)", tree.height());
     for (tenant, node) in table.iter().enumerate().filter(|&(_, &node)| node != 0) {
         text += &format!(" {tenant}:{node}");

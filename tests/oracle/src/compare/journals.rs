@@ -44,7 +44,8 @@ pub fn records(subject: &mut dyn Subject, amounts: &Amounts, random: &mut Random
     Ok(comparisons)
 }
 
-fn same_written(subject: &mut dyn Subject, record: &Record, length: usize) -> Result<(), String> {
+/// Has both planners write a record into lent bytes of a length.
+pub fn same_written(subject: &mut dyn Subject, record: &Record, length: usize) -> Result<(), String> {
     let mut right_bytes = pattern(length);
     let mut lent = Lent::new(&right_bytes);
     let right = Oracle.write(record, &mut right_bytes);
@@ -135,6 +136,12 @@ fn offsets_to_try(random: &mut Random, length: usize) -> Vec<usize> {
 }
 
 fn same_journal(subject: &mut dyn Subject, bytes: &[u8], offsets: &[usize]) -> Result<(), String> {
+    same_readings(subject, bytes, offsets)?;
+    same_listing(&subject.list(bytes), &Oracle.list(bytes))
+}
+
+/// Has both planners read a journal at some offsets, and what is a record there written back.
+pub fn same_readings(subject: &mut dyn Subject, bytes: &[u8], offsets: &[usize]) -> Result<(), String> {
     for &offset in offsets {
         let right = Oracle.read(bytes, offset);
         let reading = subject.read(bytes, offset);
@@ -146,7 +153,7 @@ fn same_journal(subject: &mut dyn Subject, bytes: &[u8], offsets: &[usize]) -> R
             writes_back(subject, &record, &bytes[offset..next])?;
         }
     }
-    same_listing(&subject.list(bytes), &Oracle.list(bytes))
+    Ok(())
 }
 
 /// Compares two listings and shows the first lines that differ.

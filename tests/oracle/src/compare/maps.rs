@@ -24,7 +24,8 @@ pub fn same_map(subject: &mut dyn Subject, height: u32, table: &[u8], length: us
     same_count(subject, &right_map)
 }
 
-fn same_count(subject: &mut dyn Subject, map: &[u8]) -> Result<(), String> {
+/// Has both planners count a map.
+pub fn same_count(subject: &mut dyn Subject, map: &[u8]) -> Result<(), String> {
     let right = Oracle.count(map);
     let count = subject.count(map);
     ensure!(

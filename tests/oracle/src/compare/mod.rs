@@ -15,7 +15,9 @@ use std::io::{self, Write};
 use crate::random::Random;
 use crate::subject::Subject;
 
-pub use calls::{same_history, Failure};
+pub use calls::{same_call, same_history, same_opening, shortened, show_table, table_with, Failure, Same};
+pub use journals::{same_readings, same_written};
+pub use maps::{same_count, same_map};
 
 /// How much is tried, and from which seed.
 #[derive(Clone, Debug)]

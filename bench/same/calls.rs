@@ -1,0 +1,54 @@
+//! Grants and releases whose arguments are valid, over a decoded table.
+
+use crate::layout::{layout, total};
+use crate::plan::{plan_moves, Plan};
+use crate::survey::survey;
+use crate::{NODES, TENANTS};
+
+/// What an accepted call does: the newcomer's node or the one given up, and the moves.
+pub struct Done {
+    pub node: u16,
+    pub plan: Plan,
+}
+
+/// Grants a block of the level, or gives the number of the refusal.
+pub fn grant(height: u16, table: &mut [u16; TENANTS], tenant: u16, level: u16) -> Result<Done, u16> {
+    let mut owners = [0; NODES];
+    let mut counts = survey(height, table, &mut owners).ok_or(7u16)?;
+    if table[usize::from(tenant)] != 0 {
+        return Err(8);
+    }
+    if total(&counts) + (1 << level) > 1 << height {
+        return Err(10);
+    }
+    let old = layout(&counts);
+    counts[usize::from(level)] += 1;
+    let new = layout(&counts);
+    let (plan, node) = plan_moves(height, &old, &new, 0, Some(level), &owners);
+    carry_out(table, &plan);
+    table[usize::from(tenant)] = node;
+    Ok(Done { node, plan })
+}
+
+/// Releases the tenant's block, or gives the number of the refusal.
+pub fn release(height: u16, table: &mut [u16; TENANTS], tenant: u16) -> Result<Done, u16> {
+    let mut owners = [0; NODES];
+    let mut counts = survey(height, table, &mut owners).ok_or(7u16)?;
+    let node = table[usize::from(tenant)];
+    if node == 0 {
+        return Err(9);
+    }
+    let old = layout(&counts);
+    counts[usize::from(height - node.ilog2() as u16)] -= 1;
+    let new = layout(&counts);
+    let (plan, _) = plan_moves(height, &old, &new, node, None, &owners);
+    table[usize::from(tenant)] = 0;
+    carry_out(table, &plan);
+    Ok(Done { node, plan })
+}
+
+fn carry_out(table: &mut [u16; TENANTS], plan: &Plan) {
+    for step in plan.moves() {
+        table[usize::from(step.tenant)] = step.to;
+    }
+}

@@ -1,0 +1,120 @@
+//! Which blocks move when one layout takes the place of another, from the ends of the runs, the lone blocks and the
+//! hole.
+
+use crate::layout::{Layout, Row};
+use crate::survey::Owners;
+use crate::NONE;
+
+/// The most moves of a call.
+const MOST: usize = 4;
+
+#[derive(Clone, Copy, Default)]
+pub struct Move {
+    pub tenant: u16,
+    pub from: u16,
+    pub to: u16,
+}
+
+/// The moves of a call, in order.
+#[derive(Default)]
+pub struct Plan {
+    number: usize,
+    moves: [Move; MOST],
+}
+
+impl Plan {
+    pub fn moves(&self) -> &[Move] {
+        &self.moves[..self.number]
+    }
+
+    fn push(&mut self, step: Move) {
+        self.moves[self.number] = step;
+        self.number += 1;
+    }
+}
+
+/// A row without the block at `hole`, if that is not [`NONE`].
+#[derive(Clone, Copy, PartialEq)]
+struct Places {
+    row: Row,
+    hole: u16,
+}
+
+impl Places {
+    fn holds(&self, index: u16) -> bool {
+        index != self.hole && self.row.holds(index)
+    }
+
+    fn last(&self) -> u16 {
+        self.row.start + self.row.run.saturating_sub(1)
+    }
+}
+
+/// The least index from `from` on that is in `old` and not in `new`, or [`NONE`]. Rows of layouts that follow each
+/// other differ at no others than the four that are tried.
+fn least(old: &Places, new: &Places, from: u16) -> u16 {
+    let candidates = [old.row.start, old.last(), old.row.lone, new.hole];
+    let fits = |&index: &u16| index >= from && old.holds(index) && !new.holds(index);
+    candidates.into_iter().filter(fits).min().unwrap_or(NONE)
+}
+
+/// The moves from the old layout, without the node `gone` (0 for none), into the new one, and the place on the level
+/// wanted that they leave over, or 0.
+pub fn plan_moves(
+    height: u16,
+    old: &Layout,
+    new: &Layout,
+    gone: u16,
+    wanted: Option<u16>,
+    owners: &Owners,
+) -> (Plan, u16) {
+    let mut plan = Plan::default();
+    let mut node = 0;
+    for level in 0..=height {
+        let base = 1 << (height - level);
+        let old = Places {
+            row: old[usize::from(level)],
+            hole: index_on(base, gone),
+        };
+        let new = Places {
+            row: new[usize::from(level)],
+            hole: NONE,
+        };
+        // Most levels stay as they were.
+        if old == new {
+            continue;
+        }
+        let spare = shift_level(&mut plan, base, &old, &new, owners);
+        if wanted == Some(level) && spare != NONE {
+            node = base + spare;
+        }
+    }
+    (plan, node)
+}
+
+/// The index of a node on the level whose first node is `base`, or [`NONE`] for a node of another level.
+fn index_on(base: u16, node: u16) -> u16 {
+    let index = node.wrapping_sub(base);
+    if index < base {
+        index
+    } else {
+        NONE
+    }
+}
+
+/// Plans the moves of the level whose first node is `base`, and gives the first place left over, or [`NONE`].
+fn shift_level(plan: &mut Plan, base: u16, old: &Places, new: &Places, owners: &Owners) -> u16 {
+    let mut mover = least(old, new, 0);
+    let mut place = least(new, old, 0);
+    while mover != NONE && place != NONE {
+        let from = base + mover;
+        plan.push(Move {
+            tenant: owners[usize::from(from)] - 1,
+            from,
+            to: base + place,
+        });
+        mover = least(old, new, mover + 1);
+        place = least(new, old, place + 1);
+    }
+    place
+}

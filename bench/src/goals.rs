@@ -1,0 +1,172 @@
+//! The goals, and what was measured of them.
+
+use std::error::Error;
+
+use crate::counts::Count;
+use crate::rows::{Row, CALLS, HEIGHTS};
+use crate::stats::median;
+use crate::timing::{Figures, PASS, SAME, SECOND};
+
+/// A number that is to stay at or below a limit.
+pub struct Goal {
+    pub what: &'static str,
+    pub limit: f64,
+    pub measured: f64,
+    /// Where that was measured: the worst place.
+    pub place: String,
+}
+
+impl Goal {
+    /// The goal, for the worst of some places; none if there is no place.
+    fn worst(what: &'static str, limit: f64, places: impl Iterator<Item = (f64, String)>) -> Option<Goal> {
+        let (measured, place) = places.max_by(|one, other| one.0.total_cmp(&other.0))?;
+        Some(Goal {
+            what,
+            limit,
+            measured,
+            place,
+        })
+    }
+
+    pub fn is_met(&self) -> bool {
+        self.measured <= self.limit
+    }
+}
+
+/// The goals that time decides, each for its worst row.
+pub fn of_times(rows: &[Row], figures: &[Figures]) -> Vec<Goal> {
+    let ratios = |who: usize| {
+        let places = rows.iter().zip(figures);
+        places.map(move |(row, figures)| (row, figures.ratios[who].middle))
+    };
+    let named = |(row, ratio): (&Row, f64)| (ratio, row.name());
+    let full = |(row, _): &(&Row, f64)| changes_full(row);
+    let goals = [
+        Goal::worst("library ÷ same algorithm in Rust, time", 1.1, ratios(SAME).map(named)),
+        Goal::worst("library ÷ second planner, time", 1.0, ratios(SECOND).map(named)),
+        Goal::worst(
+            "grant or release on a full table ÷ bare pass, time",
+            40.0,
+            ratios(PASS).filter(full).map(named),
+        ),
+    ];
+    goals.into_iter().flatten().collect()
+}
+
+/// The goals that instructions decide: by call and height against the same algorithm in Rust and against the bare
+/// pass, and by height for the longest call.
+pub fn of_counts(rows: &[Row], counts: &[Count]) -> Vec<Goal> {
+    let mut goals = Vec::new();
+    for height in HEIGHTS {
+        for call in CALLS {
+            let chosen = |row: &Row| row.height == height && row.call == call;
+            let against_same = of_rows(rows, counts, chosen).map(|(row, library, same)| (library / same, row.name()));
+            goals.extend(Goal::worst(
+                "library ÷ same algorithm in Rust, instructions",
+                1.1,
+                against_same,
+            ));
+            let full = |row: &Row| chosen(row) && changes_full(row);
+            let pass = pass_of(counts);
+            let against_pass = of_rows(rows, counts, full).map(|(row, library, _)| (library / pass, row.name()));
+            goals.extend(Goal::worst(
+                "grant or release on a full table ÷ bare pass, instructions",
+                40.0,
+                against_pass,
+            ));
+        }
+        let longest = Longest::at(height, rows, counts);
+        goals.push(Goal {
+            what: "longest grant or release ÷ median one, instructions",
+            limit: 1.5,
+            measured: longest.longest / longest.median,
+            place: longest.place,
+        });
+    }
+    goals
+}
+
+/// The goal about the stack, from the lines about it.
+pub fn of_stack(lines: &str) -> Result<Goal, Box<dyn Error>> {
+    let places = stack_uses(lines).map(|(function, bytes)| (bytes, function.to_string()));
+    let goal = Goal::worst("stack of any call, bytes", 32_768.0, places);
+    goal.ok_or_else(|| "nothing about the stack".into())
+}
+
+/// The functions and the bytes that they use, from lines `function: N bytes of stack`.
+pub fn stack_uses(lines: &str) -> impl Iterator<Item = (&str, f64)> {
+    lines.lines().filter_map(|line| {
+        let (function, rest) = line.split_once(": ")?;
+        let bytes = rest.strip_suffix(" bytes of stack")?;
+        Some((function, bytes.parse().ok()?))
+    })
+}
+
+/// Whether the row has grants or releases on a table that is full, or becomes full.
+fn changes_full(row: &Row) -> bool {
+    row.reserve.starts_with("full") && ["grant", "release"].contains(&row.call)
+}
+
+/// The instructions of the bare pass.
+pub fn pass_of(counts: &[Count]) -> f64 {
+    let pass = counts.iter().find(|count| count.who == "pass");
+    pass.map_or(f64::NAN, |pass| pass.instructions as f64)
+}
+
+/// The instructions that the library and the same algorithm in Rust took for each input of the chosen rows.
+fn of_rows<'a>(
+    rows: &'a [Row],
+    counts: &'a [Count],
+    chosen: impl Fn(&Row) -> bool + 'a,
+) -> impl Iterator<Item = (&'a Row, f64, f64)> + 'a {
+    let rows = rows.iter().enumerate().filter(move |(_, row)| chosen(row));
+    rows.flat_map(move |(place, row)| {
+        let both = of_row(counts, place, "library").zip(of_row(counts, place, "same"));
+        both.map(move |(library, same)| (row, library, same))
+    })
+}
+
+/// The instructions that somebody took for each input of a row, by its place.
+pub fn of_row<'a>(counts: &'a [Count], place: usize, who: &'a str) -> impl Iterator<Item = f64> + 'a {
+    let chosen = move |count: &&Count| count.set == "row" && count.place == place && count.who == who;
+    counts.iter().filter(chosen).map(|count| count.instructions as f64)
+}
+
+/// The longest grant or release of the library at a height, and the median one of the history there.
+pub struct Longest {
+    pub answered: usize,
+    pub refused: usize,
+    pub median: f64,
+    pub longest: f64,
+    pub place: String,
+}
+
+impl Longest {
+    pub fn at(height: u16, rows: &[Row], counts: &[Count]) -> Longest {
+        let library = || counts.iter().filter(|count| count.who == "library");
+        let at_height = |set: &'static str| {
+            let chosen = move |count: &&Count| count.set == set && count.place == usize::from(height);
+            library().filter(chosen)
+        };
+        let answered = at_height("history").filter(|count| count.answer == 0);
+        let refused = at_height("history").filter(|count| count.answer != 0);
+        let of_calls = at_height("history").chain(at_height("most-moves"));
+        let changes = |row: &Row| row.height == height && ["grant", "release"].contains(&row.call);
+        let of_table = library().filter(|count| count.set == "row" && changes(&rows[count.place]));
+        let all = of_calls.chain(of_table);
+        let longest = all
+            .max_by_key(|count| count.instructions)
+            .expect("a history was counted");
+        let place = match longest.set.as_str() {
+            "row" => rows[longest.place].name(),
+            set => format!("height {height}, {}, {set}, {} moves", longest.call, longest.moves),
+        };
+        Longest {
+            answered: answered.clone().count(),
+            refused: refused.count(),
+            median: median(answered.map(|count| count.instructions as f64)),
+            longest: longest.instructions as f64,
+            place,
+        }
+    }
+}

@@ -1,0 +1,137 @@
+//! Calls one after the other, from an empty reserve to a full one and back, and the calls with the most moves.
+
+use oracle::definitions::Tree;
+use oracle::generate::nearly_full;
+use oracle::planner::TENANTS;
+use oracle::random::Random;
+
+use crate::input::{Ask, Input};
+use crate::reserve::Reserve;
+use crate::rows::{outcome_of, HEIGHTS, SEED};
+
+/// The fewest calls of a history; it goes to full and back as often as that takes.
+const CALLS: usize = 400;
+
+/// How many reserves are searched for calls with the most moves, and how many of these calls are kept.
+const SEARCHED: usize = 200;
+const KEPT: usize = 8;
+
+/// What is counted at a height besides the rows of the table.
+pub struct Counted {
+    pub height: u16,
+    pub most_moves: Vec<Input>,
+    pub history: Vec<Ask>,
+}
+
+/// The same at every call, for each height.
+pub fn counted() -> [Counted; HEIGHTS.len()] {
+    let mut random = Random::new(SEED);
+    HEIGHTS.map(|height| Counted {
+        height,
+        most_moves: most_moves(height, &mut random),
+        history: history(height, &mut random),
+    })
+}
+
+/// Whoever holds a block, and how many pages are left.
+struct Crowd<'a> {
+    random: &'a mut Random,
+    height: u16,
+    room: u32,
+    holders: Vec<(u16, u16)>,
+    asks: Vec<Ask>,
+}
+
+/// A history of grants and releases at a height, refused ones among them.
+fn history(height: u16, random: &mut Random) -> Vec<Ask> {
+    let mut crowd = Crowd {
+        random,
+        height,
+        room: 1 << height,
+        holders: Vec::new(),
+        asks: Vec::new(),
+    };
+    while crowd.asks.len() < CALLS {
+        while crowd.room > 0 {
+            crowd.step(4);
+        }
+        while !crowd.holders.is_empty() {
+            crowd.step(1);
+        }
+    }
+    crowd.asks
+}
+
+impl Crowd<'_> {
+    /// One call: so many of five are grants, and the others releases; now and then it is one that is refused.
+    fn step(&mut self, grants: u32) {
+        if self.random.one_in(8) {
+            self.refused();
+        } else if self.random.below(5) < grants {
+            self.grant();
+        } else {
+            self.release();
+        }
+    }
+
+    /// A grant of any level, small ones more often; it may find no room.
+    fn grant(&mut self) {
+        let steps = self.random.next_number().trailing_zeros() as u16;
+        let level = (2 * steps + self.random.below(2) as u16).min(self.height);
+        let tenant = self.newcomer();
+        self.asks.push(Ask::Grant { tenant, level });
+        if 1 << level <= self.room {
+            self.room -= 1 << level;
+            self.holders.push((tenant, level));
+        }
+    }
+
+    fn release(&mut self) {
+        if self.holders.is_empty() {
+            return;
+        }
+        let place = self.random.index(self.holders.len());
+        let (tenant, level) = self.holders.swap_remove(place);
+        self.room += 1 << level;
+        self.asks.push(Ask::Release { tenant });
+    }
+
+    /// A release by somebody who holds nothing, or a grant to somebody who does.
+    fn refused(&mut self) {
+        let holder = self.holders.first().map(|&(tenant, _)| tenant);
+        let ask = match holder {
+            Some(tenant) if self.random.one_in(2) => Ask::Grant { tenant, level: 0 },
+            _ => Ask::Release {
+                tenant: self.newcomer(),
+            },
+        };
+        self.asks.push(ask);
+    }
+
+    fn newcomer(&mut self) -> u16 {
+        loop {
+            let tenant = self.random.index(TENANTS) as u16;
+            if self.holders.iter().all(|&(holder, _)| holder != tenant) {
+                return tenant;
+            }
+        }
+    }
+}
+
+/// The calls with the most moves among those on some reserves that are nearly full, grants and releases apart.
+fn most_moves(height: u16, random: &mut Random) -> Vec<Input> {
+    let mut grants = Vec::new();
+    let mut releases = Vec::new();
+    for _ in 0..SEARCHED {
+        let counts = nearly_full(random, Tree::new(height.into()));
+        let reserve = Reserve::draw(height, &counts, random);
+        grants.extend(reserve.grants(random).into_iter().map(|ask| reserve.input(ask)));
+        releases.extend(reserve.releases(random).into_iter().map(|ask| reserve.input(ask)));
+    }
+    for inputs in [&mut grants, &mut releases] {
+        inputs.sort_by_cached_key(|input| std::cmp::Reverse(outcome_of(input).moves));
+        inputs.truncate(KEPT);
+    }
+    grants.append(&mut releases);
+    grants
+}

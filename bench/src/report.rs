@@ -1,0 +1,171 @@
+//! The figures as Markdown.
+
+use std::fmt::{self, Write};
+
+use crate::counts::Count;
+use crate::goals::{of_row, pass_of, stack_uses, Goal, Longest};
+use crate::rows::{Row, HEIGHTS, SEED};
+use crate::stats::{median, Spread};
+use crate::timing::{Figures, LIBRARY, PASS, SAME, SECOND};
+
+/// Everything that a run has found out.
+pub struct Findings<'a> {
+    /// The machine, a line for each thing.
+    pub machine: &'a str,
+    pub rounds: usize,
+    pub rows: &'a [Row],
+    pub figures: &'a [Figures],
+    pub counts: &'a [Count],
+    pub goals: &'a [Goal],
+    /// What each function uses, a line for each.
+    pub stack: &'a str,
+}
+
+/// Writes all sections.
+pub fn write(out: &mut String, findings: &Findings) -> fmt::Result {
+    writeln!(out, "### Machine\n")?;
+    for line in findings.machine.lines() {
+        writeln!(out, "- {line}")?;
+    }
+    goals(out, findings.goals)?;
+    for height in HEIGHTS.into_iter().rev() {
+        rows(out, height, findings)?;
+    }
+    longest(out, findings)?;
+    stack(out, findings.stack)
+}
+
+/// One line for each goal: where it was measured more than once, the worst.
+fn goals(out: &mut String, goals: &[Goal]) -> fmt::Result {
+    writeln!(out, "\n### Goals\n")?;
+    writeln!(out, "| Goal | Limit | Measured | Worst place | |")?;
+    writeln!(out, "|---|---:|---:|---|---|")?;
+    let is_worst = |goal: &&Goal| {
+        let alike = goals.iter().filter(|other| other.what == goal.what);
+        alike.map(|other| other.measured).fold(f64::MIN, f64::max) == goal.measured
+    };
+    let mut shown: Vec<&str> = Vec::new();
+    for goal in goals.iter().filter(is_worst) {
+        if shown.contains(&goal.what) {
+            continue;
+        }
+        shown.push(goal.what);
+        let verdict = if goal.is_met() { "met" } else { "missed" };
+        let (what, place) = (goal.what, &goal.place);
+        let (limit, measured) = (exact(goal.limit), exact(goal.measured));
+        writeln!(out, "| {what} | {limit} | {measured} | {place} | {verdict} |")?;
+    }
+    Ok(())
+}
+
+fn rows(out: &mut String, height: u16, findings: &Findings) -> fmt::Result {
+    let pages = thousands(f64::from(1 << height));
+    writeln!(out, "\n### Height {height}, {pages} pages\n")?;
+    writeln!(
+        out,
+        "{} rounds, seed {SEED}; in brackets the first and the third quartile.\n",
+        findings.rounds
+    )?;
+    let times = "Library, ns | Rust, ns | Second, ns | Pass, ns";
+    let ratios = "Library ÷ Rust | ÷ second | ÷ pass";
+    let counts = "Library, instructions | Rust | Library ÷ Rust | ÷ pass";
+    writeln!(out, "| Call | Reserve | Outcome | {times} | {ratios} | {counts} |")?;
+    writeln!(out, "|---|---|---|{}", "---:|".repeat(11))?;
+    let lines = findings.rows.iter().zip(findings.figures).enumerate();
+    for (place, (row, figures)) in lines.filter(|(_, (row, _))| row.height == height) {
+        let time = |who: usize| thousands(figures.times[who].middle);
+        let ratio = |who: usize| spread(&figures.ratios[who]);
+        let [library, same] = ["library", "same"].map(|who| median(of_row(findings.counts, place, who)));
+        let cells = [
+            row.call.to_string(),
+            row.reserve.to_string(),
+            row.outcome.clone(),
+            time(LIBRARY),
+            time(SAME),
+            time(SECOND),
+            time(PASS),
+            ratio(SAME),
+            ratio(SECOND),
+            ratio(PASS),
+            thousands(library),
+            thousands(same),
+            number(library / same),
+            number(library / pass_of(findings.counts)),
+        ];
+        writeln!(out, "| {} |", cells.join(" | "))?;
+    }
+    Ok(())
+}
+
+fn longest(out: &mut String, findings: &Findings) -> fmt::Result {
+    writeln!(out, "\n### The longest grant or release, in instructions\n")?;
+    writeln!(out, "The median is over the calls of a history that are answered 0.\n")?;
+    writeln!(
+        out,
+        "| Height | Answered 0 | Refused | Median | Longest | Which | Longest ÷ median |"
+    )?;
+    writeln!(out, "|---:|---:|---:|---:|---:|---|---:|")?;
+    for height in HEIGHTS.into_iter().rev() {
+        let found = Longest::at(height, findings.rows, findings.counts);
+        let cells = [
+            height.to_string(),
+            found.answered.to_string(),
+            found.refused.to_string(),
+            thousands(found.median),
+            thousands(found.longest),
+            found.place,
+            number(found.longest / found.median),
+        ];
+        writeln!(out, "| {} |", cells.join(" | "))?;
+    }
+    Ok(())
+}
+
+fn stack(out: &mut String, lines: &str) -> fmt::Result {
+    writeln!(out, "\n### Stack\n")?;
+    writeln!(out, "| Function | Bytes |")?;
+    writeln!(out, "|---|---:|")?;
+    for (function, bytes) in stack_uses(lines) {
+        writeln!(out, "| `{function}` | {} |", thousands(bytes))?;
+    }
+    Ok(())
+}
+
+/// A ratio with its quartiles.
+fn spread(ratio: &Spread) -> String {
+    let [low, middle, high] = [ratio.low, ratio.middle, ratio.high].map(number);
+    format!("{middle} ({low}–{high})")
+}
+
+/// A number with as many as three decimals; whole from 1,000 on.
+fn exact(value: f64) -> String {
+    if value >= 1000.0 {
+        return thousands(value);
+    }
+    ((value * 1000.0).round() / 1000.0).to_string()
+}
+
+/// A number with about three digits; whole ones from 1,000 on.
+fn number(value: f64) -> String {
+    let decimals = match value.abs() {
+        size if size >= 1000.0 => return thousands(value),
+        size if size >= 100.0 => 0,
+        size if size >= 10.0 => 1,
+        size if size >= 0.1 => 2,
+        _ => 3,
+    };
+    format!("{value:.decimals$}")
+}
+
+/// A whole number with commas.
+fn thousands(value: f64) -> String {
+    let digits = format!("{value:.0}");
+    let mut text = String::new();
+    for (place, digit) in digits.chars().enumerate() {
+        if place > 0 && (digits.len() - place) % 3 == 0 {
+            text.push(',');
+        }
+        text.push(digit);
+    }
+    text
+}

@@ -1,0 +1,95 @@
+//! Reserves with tenants in them.
+
+use oracle::definitions::{Counts, Tree};
+use oracle::generate::{holders_for, seat, Holder};
+use oracle::planner::TENANTS;
+use oracle::random::Random;
+use oracle::subject::table_image;
+
+use crate::contestant::{Contestant, Second};
+use crate::input::{Ask, Input, Lent, Table};
+
+/// A reserve in order, and who holds a block in it.
+pub struct Reserve {
+    height: u16,
+    table: Box<Table>,
+    holders: Vec<Holder>,
+}
+
+impl Reserve {
+    /// The counts' blocks, held by tenants drawn at random.
+    pub fn draw(height: u16, counts: &Counts, random: &mut Random) -> Reserve {
+        let holders = holders_for(random, counts);
+        let table = table_image(&seat(Tree::new(height.into()), &holders));
+        Reserve {
+            height,
+            table: table.try_into().expect("the image of a table"),
+            holders,
+        }
+    }
+
+    /// A call on this reserve. A map is there before the call only if it is to be counted.
+    pub fn input(&self, ask: Ask) -> Input {
+        let mut lent = Box::new(Lent::new(*self.table));
+        if ask == Ask::Count {
+            Second::draw(self.height, &lent.table, &mut lent.map);
+        }
+        Input {
+            height: self.height,
+            ask,
+            lent,
+        }
+    }
+
+    /// A grant of each level that there is room for; of every level, if there is room for none.
+    pub fn grants(&self, random: &mut Random) -> Vec<Ask> {
+        let held: u32 = self.holders.iter().map(|holder| 1 << holder.level).sum();
+        let room = (1 << self.height) - held;
+        let fits = |level: &u16| room == 0 || 1 << level <= room;
+        let grant = |level| Ask::Grant {
+            tenant: self.newcomer(random),
+            level,
+        };
+        (0..=self.height).filter(fits).map(grant).collect()
+    }
+
+    /// A release by the first and by the last holder of each level, as they were drawn; by nobody, if there is no
+    /// holder.
+    pub fn releases(&self, random: &mut Random) -> Vec<Ask> {
+        if self.holders.is_empty() {
+            let tenant = self.newcomer(random);
+            return vec![Ask::Release { tenant }];
+        }
+        let of_level = |level| self.holders.iter().filter(move |holder| holder.level == level);
+        let ends = (0..=self.height.into()).flat_map(|level| [of_level(level).next(), of_level(level).next_back()]);
+        let release = |holder: &Holder| Ask::Release { tenant: holder.tenant };
+        ends.flatten().map(release).collect()
+    }
+
+    /// A tenant that holds nothing; any tenant, if all hold a block.
+    fn newcomer(&self, random: &mut Random) -> u16 {
+        let holds = |tenant: usize| self.table[2 * tenant..2 * tenant + 2] != [0, 0];
+        let start = random.index(TENANTS);
+        let mut tenants = (0..TENANTS).map(|step| (start + step) % TENANTS);
+        tenants.find(|&tenant| !holds(tenant)).unwrap_or(start) as u16
+    }
+}
+
+/// Blocks of one page.
+pub fn ones(pages: u32) -> Counts {
+    let mut counts = Counts::default();
+    counts[0] = pages;
+    counts
+}
+
+/// Blocks of mixed sizes that take so many pages, about as many on each level; there is one of one page at least.
+pub fn mixed(pages: u32, random: &mut Random) -> Counts {
+    let mut counts = ones(1);
+    let mut room = pages - 1;
+    while room > 0 {
+        let level = random.next_number().trailing_zeros().min(room.ilog2());
+        counts[level as usize] += 1;
+        room -= 1 << level;
+    }
+    counts
+}

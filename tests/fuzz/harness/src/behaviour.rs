@@ -1,0 +1,101 @@
+//! What a planner did, as counters that the fuzzer reads beside those of the planner's code.
+//!
+//! A counter stands for a kind of call with its height and answer, or for the levels on which an accepted call moved
+//! somebody. An input that raises a new one is kept, so the search also goes for behaviour that runs no new code: a
+//! move on one more level, a release that moves four.
+
+use std::hash::{DefaultHasher, Hash, Hasher};
+use std::ptr::addr_of_mut;
+
+use oracle::definitions::{Tree, TALLEST};
+use oracle::journal::{Reading, Record};
+use oracle::refusal::DONE;
+use oracle::subject::{moves_from, Count, Reach, Reply, Subject};
+
+const COUNTERS: usize = 1 << 13;
+
+// The fuzzer clears these before each input and reads them after it.
+#[link_section = "__libfuzzer_extra_counters"]
+static mut SEEN: [u8; COUNTERS] = [0; COUNTERS];
+
+fn count(what: impl Hash) {
+    let mut hasher = DefaultHasher::new();
+    what.hash(&mut hasher);
+    let place = hasher.finish() as usize % COUNTERS;
+    // The fuzzer runs one input at a time, on one thread.
+    unsafe {
+        let counter = addr_of_mut!(SEEN[place]);
+        *counter = (*counter).saturating_add(1);
+    }
+}
+
+#[derive(Clone, Copy, Hash)]
+enum Kind {
+    GrantLevel,
+    GrantPages,
+    Release,
+}
+
+/// A planner that is watched.
+pub struct Watched<S>(pub S);
+
+fn note(kind: Kind, height: u32, moves: &[u8], reply: Reply) -> Reply {
+    count((kind, height.min(TALLEST + 1), reply.answer));
+    if reply.answer == DONE && height <= TALLEST {
+        let tree = Tree::new(height);
+        let in_tree = |node: u16| (1..=tree.last_node()).contains(&node);
+        let moves = moves_from(moves, reply.moves);
+        let levels: Vec<u32> = moves
+            .iter()
+            .filter(|step| in_tree(step.old))
+            .map(|step| tree.level(step.old))
+            .collect();
+        count((matches!(kind, Kind::Release), levels));
+    }
+    reply
+}
+
+impl<S: Subject> Subject for Watched<S> {
+    fn reach(&self) -> Reach {
+        self.0.reach()
+    }
+
+    fn open(&mut self, height: u32, table: &mut [u8]) -> u32 {
+        self.0.open(height, table)
+    }
+
+    fn grant_level(&mut self, height: u32, table: &mut [u8], moves: &mut [u8], tenant: u32, level: u32) -> Reply {
+        let reply = self.0.grant_level(height, table, moves, tenant, level);
+        note(Kind::GrantLevel, height, moves, reply)
+    }
+
+    fn grant_pages(&mut self, height: u32, table: &mut [u8], moves: &mut [u8], tenant: u32, pages: u32) -> Reply {
+        let reply = self.0.grant_pages(height, table, moves, tenant, pages);
+        note(Kind::GrantPages, height, moves, reply)
+    }
+
+    fn release(&mut self, height: u32, table: &mut [u8], moves: &mut [u8], tenant: u32) -> Reply {
+        let reply = self.0.release(height, table, moves, tenant);
+        note(Kind::Release, height, moves, reply)
+    }
+
+    fn draw(&mut self, height: u32, table: &[u8], map: &mut [u8]) -> u32 {
+        self.0.draw(height, table, map)
+    }
+
+    fn count(&mut self, map: &[u8]) -> Count {
+        self.0.count(map)
+    }
+
+    fn read(&mut self, journal: &[u8], offset: usize) -> Reading {
+        self.0.read(journal, offset)
+    }
+
+    fn write(&mut self, record: &Record, lent: &mut [u8]) -> u32 {
+        self.0.write(record, lent)
+    }
+
+    fn list(&mut self, journal: &[u8]) -> Vec<u8> {
+        self.0.list(journal)
+    }
+}

@@ -1,0 +1,187 @@
+//! An input as a programme: what its bytes have both planners do.
+
+use std::fmt::{self, Display};
+
+use oracle::book::Book;
+use oracle::compare::{same_count, same_history, same_readings, same_written, shortened, Failure};
+use oracle::generate::{seat, History};
+use oracle::journal::{Reading, Record, LONGEST};
+use oracle::page_map::MAP_BYTES;
+use oracle::shrink::shorten;
+use oracle::subject::{Oracle, Subject, MOVE_BYTES};
+
+use crate::bytes::Bytes;
+use crate::spoilt::Spoilt;
+use crate::tape::Tape;
+
+/// Longer journals are read this far from either end only.
+const NEAR_AN_END: usize = 1024;
+
+/// The lengths of maps worth trying besides the one that suffices.
+pub const MAP_LENGTHS: [usize; 6] = [0, 1, MAP_BYTES - 1, MAP_BYTES + 1, MAP_BYTES + 8, 2 * MAP_BYTES];
+
+pub enum Programme {
+    /// Calls from an opening or from a table in order, with the book kept beside them.
+    History(History),
+    Spoilt(Spoilt),
+    /// A journal to read at its offsets.
+    Journal(Bytes),
+    /// A map to count.
+    Map(Bytes),
+    /// Records to write, each into bytes of a length.
+    Records(Vec<(Record, usize)>),
+}
+
+impl Programme {
+    pub fn decode(input: &[u8]) -> Self {
+        let mut tape = Tape::new(input);
+        match tape.below(8) {
+            0..=2 => Programme::History(history(&mut tape)),
+            3 | 4 => Programme::Spoilt(Spoilt::decode(&mut tape)),
+            5 => Programme::Journal(journal(tape)),
+            6 => Programme::Map(Bytes {
+                length: Some(tape.mostly(MAP_BYTES, &MAP_LENGTHS)),
+                period: tape.rest().to_vec(),
+            }),
+            _ => Programme::Records(records(&mut tape)),
+        }
+    }
+
+    /// Carries it out on both planners.
+    pub fn run(&self, subject: &mut dyn Subject) -> Result<(), String> {
+        match self {
+            Programme::History(history) => told(same_history(subject, history)),
+            Programme::Spoilt(spoilt) => told(spoilt.run(subject)),
+            Programme::Journal(bytes) => same_journal(subject, &bytes.whole()),
+            Programme::Map(bytes) => same_count(subject, &bytes.whole()),
+            Programme::Records(records) => same_records(subject, records),
+        }
+    }
+
+    /// With all parts left out that a difference does not need.
+    pub fn shortened(self, subject: &mut dyn Subject) -> Self {
+        match self {
+            Programme::History(history) => Programme::History(match same_history(subject, &history) {
+                Err(failure) => shortened(subject, &history, &failure),
+                Ok(_) => history,
+            }),
+            Programme::Spoilt(spoilt) => Programme::Spoilt(spoilt.shortened(subject)),
+            Programme::Journal(bytes) => {
+                Programme::Journal(bytes.shortened(|journal| same_journal(subject, journal).is_err()))
+            }
+            Programme::Map(bytes) => Programme::Map(bytes.shortened(|map| same_count(subject, map).is_err())),
+            Programme::Records(records) => {
+                Programme::Records(shorten(&records, |records| same_records(subject, records).is_err()))
+            }
+        }
+    }
+}
+
+fn told<T>(result: Result<T, Failure>) -> Result<(), String> {
+    result.map(drop).map_err(|failure| failure.to_string())
+}
+
+fn same_journal(subject: &mut dyn Subject, journal: &[u8]) -> Result<(), String> {
+    let offsets = offsets(journal.len());
+    same_readings(subject, journal, &offsets)
+}
+
+fn same_records(subject: &mut dyn Subject, records: &[(Record, usize)]) -> Result<(), String> {
+    records.iter().try_for_each(|(record, length)| {
+        same_written(subject, record, *length).map_err(|finding| format!("{record:?} into {length} bytes: {finding}"))
+    })
+}
+
+impl Display for Programme {
+    fn fmt(&self, f: &mut fmt::Formatter) -> fmt::Result {
+        match self {
+            Programme::History(history) => write!(f, "{history}"),
+            Programme::Spoilt(spoilt) => write!(f, "{spoilt}"),
+            Programme::Journal(bytes) => {
+                write!(f, "  read a journal of {bytes}")?;
+                show_readings(f, &bytes.whole())
+            }
+            Programme::Map(bytes) => write!(f, "  count a map of {bytes}"),
+            Programme::Records(records) => records
+                .iter()
+                .try_for_each(|(record, length)| writeln!(f, "  write {record:?} into {length} bytes")),
+        }
+    }
+}
+
+fn history(tape: &mut Tape) -> History {
+    let tree = tape.tree();
+    let start = tape.holders(tree);
+    let mut book = match &start {
+        None => Book::new(tree),
+        Some(holders) => Book::of_table(tree, &seat(tree, holders)),
+    };
+    let mut calls = Vec::new();
+    while !tape.is_at_end() {
+        let call = tape.call(tree, |tenant| book.level_of(tenant).is_some());
+        let answer = book.answer(call.request, call.move_bytes / MOVE_BYTES);
+        book.enter(call.request, answer);
+        calls.push(call);
+    }
+    History {
+        height: tree.height(),
+        start,
+        calls,
+    }
+}
+
+/// The rest of the tape as it stands or, now and then, repeated to about the longest journal that there may be.
+fn journal(mut tape: Tape) -> Bytes {
+    let length = match tape.byte() {
+        byte @ 240.. => Some(LONGEST - 8 + usize::from(byte - 240)),
+        _ => None,
+    };
+    Bytes {
+        period: tape.rest().to_vec(),
+        length,
+    }
+}
+
+fn records(tape: &mut Tape) -> Vec<(Record, usize)> {
+    let mut records = Vec::new();
+    while !tape.is_at_end() {
+        let kind = tape.below(4);
+        let length = tape.below(8) as usize;
+        let record = match kind {
+            0 => Record::Open { height: tape.byte() },
+            1 => Record::GrantLevel {
+                tenant: tape.word(),
+                level: tape.byte(),
+            },
+            2 => Record::GrantPages {
+                tenant: tape.word(),
+                pages: tape.word(),
+            },
+            _ => Record::Release { tenant: tape.word() },
+        };
+        records.push((record, length));
+    }
+    records
+}
+
+fn offsets(length: usize) -> Vec<usize> {
+    let near_an_end = |offset: &usize| *offset <= NEAR_AN_END || length - offset <= NEAR_AN_END;
+    let past_the_end = [length + 1, length + 2, LONGEST, LONGEST + 1, usize::MAX];
+    (0..=length).filter(near_an_end).chain(past_the_end).collect()
+}
+
+/// The records of a journal from its front on, as the second planner reads them, to the first that is refused.
+fn show_readings(f: &mut fmt::Formatter, journal: &[u8]) -> fmt::Result {
+    let mut offset = 0;
+    while offset < NEAR_AN_END {
+        match Oracle.read(journal, offset) {
+            Reading::Record { record, next } => {
+                writeln!(f, "  {offset}: {record:?}")?;
+                offset = next;
+            }
+            Reading::Refused { number, offset } => return writeln!(f, "  {offset}: refused, {number}"),
+            Reading::End => return Ok(()),
+        }
+    }
+    Ok(())
+}

@@ -1,0 +1,150 @@
+//! The bytes of an input, read from the front.
+
+use oracle::definitions::{Tree, TALLEST};
+use oracle::generate::{Call, Holder};
+use oracle::planner::{Request, FEWEST_ENTRIES, TENANTS};
+use oracle::subject::MOVE_BYTES;
+
+/// What is lent now and then instead of a list of moves that just suffices.
+const LIST_LENGTHS: [usize; 16] = [0, 1, 5, 6, 12, 18, 22, 23, 25, 26, 29, 30, 31, 36, 48, 64];
+
+/// Tenants about the largest number that there is, and about the ends of 16 bits.
+const TENANTS_AT_THE_EDGE: [u32; 8] = [4094, 4095, 4096, 4097, 0x1fff, 0x7fff, 0x8000, 0xffff];
+
+/// Past its end the tape has zeros, so every input is a programme. Numbers that only lead to a refusal are kept rare:
+/// a byte stands for a sensible number unless it is large.
+pub struct Tape<'a> {
+    rest: &'a [u8],
+}
+
+impl<'a> Tape<'a> {
+    pub fn new(input: &'a [u8]) -> Self {
+        Tape { rest: input }
+    }
+
+    pub fn is_at_end(&self) -> bool {
+        self.rest.is_empty()
+    }
+
+    pub fn rest(self) -> &'a [u8] {
+        self.rest
+    }
+
+    pub fn byte(&mut self) -> u8 {
+        let Some((&first, rest)) = self.rest.split_first() else {
+            return 0;
+        };
+        self.rest = rest;
+        first
+    }
+
+    pub fn word(&mut self) -> u16 {
+        u16::from_le_bytes([self.byte(), self.byte()])
+    }
+
+    /// A number below a bound of at most 256.
+    pub fn below(&mut self, bound: u32) -> u32 {
+        u32::from(self.byte()) % bound
+    }
+
+    /// The usual value three times in four, else one of the others.
+    pub fn mostly<T: Copy>(&mut self, usual: T, others: &[T]) -> T {
+        match usize::from(self.byte()).checked_sub(192) {
+            None => usual,
+            Some(place) => others[place % others.len()],
+        }
+    }
+
+    pub fn tree(&mut self) -> Tree {
+        Tree::new(self.below(TALLEST + 1))
+    }
+
+    /// Who holds blocks at the start, or nothing if the reserve is opened: up to seven times so many blocks of a level
+    /// as are named and still fit, 255 being as many as there is room for. A full reserve takes four bytes.
+    pub fn holders(&mut self, tree: Tree) -> Option<Vec<Holder>> {
+        let groups = self.below(8);
+        if groups == 0 {
+            return None;
+        }
+        // Odd, so that every tenant comes once; tenants stand side by side in another order than their numbers.
+        let stride = 2 * u32::from(self.byte()) + 1;
+        let mut room = tree.pages_in_all();
+        let mut levels = Vec::new();
+        for _ in 0..groups {
+            let level = self.below(tree.height() + 1);
+            let number = match self.byte() {
+                255 => room >> level,
+                number => u32::from(number).min(room >> level),
+            };
+            room -= number << level;
+            levels.extend((0..number).map(|_| level));
+        }
+        let tenant = |place: u32| (place * stride % TENANTS as u32) as u16;
+        let holder = |(place, level)| Holder {
+            tenant: tenant(place),
+            level,
+        };
+        Some((0..).zip(levels).map(holder).collect())
+    }
+
+    /// A newcomer, a holder, a small number or one at the edge.
+    pub fn tenant(&mut self, holds: impl Fn(u32) -> bool) -> u32 {
+        let byte = self.byte();
+        let place = usize::from(byte % 64);
+        let all = 0..TENANTS as u32;
+        match byte / 64 {
+            0 => all.filter(|&tenant| !holds(tenant)).nth(place).unwrap_or(0),
+            1 => {
+                let holders: Vec<u32> = all.filter(|&tenant| holds(tenant)).collect();
+                holders.get(place * holders.len() / 64).copied().unwrap_or(0)
+            }
+            2 => place as u32,
+            _ => TENANTS_AT_THE_EDGE[place % TENANTS_AT_THE_EDGE.len()],
+        }
+    }
+
+    fn level(&mut self, tree: Tree) -> u32 {
+        let height = tree.height();
+        let byte = u32::from(self.byte());
+        let beyond = [height + 1, height + 2, 13, 16, 255, 256, 0x8000, 0xffff];
+        match byte.checked_sub(240) {
+            None => byte % (height + 1),
+            Some(place) => beyond[place as usize % beyond.len()],
+        }
+    }
+
+    /// A power of two, its neighbours, or a number between two of them.
+    fn pages(&mut self, tree: Tree) -> u32 {
+        let levels = tree.height() + 1;
+        let all = tree.pages_in_all();
+        let byte = u32::from(self.byte());
+        let edges = [0, all + 1, all + 2, 2 * all, 4095, 4097, 0x8000, 0xffff];
+        let power = 1 << (byte % levels);
+        match byte.checked_sub(240) {
+            None => [power, power - 1, power + 1, power - power / 4][(byte / levels % 4) as usize],
+            Some(place) => edges[place as usize % edges.len()],
+        }
+    }
+
+    /// A grant or a release with the list that is lent for it: three bytes.
+    pub fn call(&mut self, tree: Tree, holds: impl Fn(u32) -> bool) -> Call {
+        let byte = self.byte();
+        let tenant = self.tenant(holds);
+        let request = match byte % 4 {
+            0 => Request::GrantLevel {
+                tenant,
+                level: self.level(tree),
+            },
+            1 => Request::GrantPages {
+                tenant,
+                pages: self.pages(tree),
+            },
+            _ => Request::Release { tenant },
+        };
+        let move_bytes = match usize::from(byte / 4).checked_sub(48) {
+            None => FEWEST_ENTRIES * MOVE_BYTES,
+            Some(place) => LIST_LENGTHS[place],
+        };
+        Call { request, move_bytes }
+    }
+}
