@@ -1,4 +1,4 @@
--- From what `run` hands back by value to what is reported and stands in the lists.
+-- From what `calls::run` hands back by value to what is reported and stands in the lists.
 use mathlib.Core.Path.{_≡_, sym, ap, _∙_}
 use mathlib.Core.List.{List, _++_}
 use Prim.Native.Nat.{ℕ, _≤_}

@@ -20,29 +20,7 @@ pub struct Report {
     pub moves: usize,
 }
 
-// A move of a plan.
-fn move_at(plan: Plan, i: usize) -> Move
-    requires { ⌜ i < 4 ⌝ }
-    ensures { λ r. ⌜ r ≡ getD (plan .moves) i nobody ⌝ }
-{
-    let moves = plan.moves;
-    moves[i]
-}
-
-// Puts the moves of a plan at the front of the list, and leaves the entries after them.
-fn fill(plan: Plan, moves: &mut [Move])
-    requires { ⌜ (plan .n ≤ 4) × (plan .n ≤ length (now moves)) ⌝ }
-    ensures { λ _. ⌜ now (moves .exit) ≡ movesIn plan ++ drop (plan .n) (now (moves .entry)) ⌝ }
-{
-    let n = plan.n;
-    let mut i = 0;
-    while i < n {
-        moves[i] = move_at(plan, i);
-        i += 1;
-    }
-}
-
-// Runs a grant or a release, and puts its moves at the front of the list.
+// Runs a grant or a release, and puts its moves at the front of the lent list.
 pub fn perform(height: u16, table: &mut [u16], moves: &mut [Move], call: Call) -> Report
     ensures { λ r. ⌜ Performed height call (now (table .entry)) (now (moves .entry)) r (now (table .exit)) (now (moves .exit)) ⌝ }
 {
@@ -55,7 +33,18 @@ pub fn perform(height: u16, table: &mut [u16], moves: &mut [Move], call: Call) -
     }
 }
 
-// The same on a list of four entries of its own, whose moves are handed back by value.
+// Runs a call on a list of so many entries, and hands its moves back by value: for callers that lend no list.
+pub fn perform_by_value(height: u16, table: &mut [u16], entries: usize, call: Call) -> Called
+    ensures value { λ r. ⌜ valueOf r (now (table .exit)) ≡ step height (now (table .entry)) (callOf call entries) ⌝ }
+    ensures few { λ r. ⌜ r .plan .n ≤ 4 ⌝ }
+{
+    if entries < 4 {
+        return calls::run(height, table, entries, call);
+    }
+    perform_on_four(height, table, call)
+}
+
+// Runs a call on a list of its own, of four entries, and hands its moves back by value.
 fn perform_on_four(height: u16, table: &mut [u16], call: Call) -> Called
     ensures { λ r. ⌜ (valueOf r (now (table .exit)) ≡ step height (now (table .entry)) (callOf call 4)) × (r .plan .n ≤ 4) ⌝ }
 {
@@ -75,13 +64,24 @@ fn perform_on_four(height: u16, table: &mut [u16], call: Call) -> Called
     }
 }
 
-// The same without a lent list: the moves of a call on a list of so many entries, by value.
-pub fn perform_by_value(height: u16, table: &mut [u16], entries: usize, call: Call) -> Called
-    ensures value { λ r. ⌜ valueOf r (now (table .exit)) ≡ step height (now (table .entry)) (callOf call entries) ⌝ }
-    ensures few { λ r. ⌜ r .plan .n ≤ 4 ⌝ }
+// Puts the moves of a plan at the front of the list, and leaves the entries after them.
+fn fill(plan: Plan, moves: &mut [Move])
+    requires { ⌜ (plan .n ≤ 4) × (plan .n ≤ length (now moves)) ⌝ }
+    ensures { λ _. ⌜ now (moves .exit) ≡ movesIn plan ++ drop (plan .n) (now (moves .entry)) ⌝ }
 {
-    if entries < 4 {
-        return calls::run(height, table, entries, call);
+    let n = plan.n;
+    let mut i = 0;
+    while i < n {
+        moves[i] = move_at(plan, i);
+        i += 1;
     }
-    perform_on_four(height, table, call)
+}
+
+// A move of a plan.
+fn move_at(plan: Plan, i: usize) -> Move
+    requires { ⌜ i < 4 ⌝ }
+    ensures { λ r. ⌜ r ≡ getD (plan .moves) i nobody ⌝ }
+{
+    let moves = plan.moves;
+    moves[i]
 }

@@ -1,4 +1,5 @@
--- `planner::fill` meets its contract: a walk of its MIR, by hand. The borrow of the list is opened before the loop and closed after it; each turn puts one move of the plan in its place.
+-- `planner::fill` meets its contract: a walk of its MIR, by hand. The borrow of the list is opened before the loop and closed after it; each turn
+-- puts one move of the plan in its place.
 use mathlib.Core.Path.{_≡_, refl, sym, ap, _∙_}
 use mathlib.Core.List.{List, [], _∷_}
 use mathlib.Core.WellFounded.{WellFounded, InvImage·wf}
@@ -19,7 +20,7 @@ use base.Logic.{SProp, ent, sep, id⊢, emp}
 use base.Fml.{Lft, GName, Share, ftrue, flft, fat, fobs, fauth, fres, fobor}
 use prog.Memory.{Memory}
 use prog.Routine.{Routine}
-use prog.Wp.{Heap, Out, Env, afterSeq, afterBlock, afterTurn, Calls, Loops, Wp, atReturn, WpFn, Tables}
+use prog.Wp.{Heap, Out, Env, afterSeq, afterBlock, afterTurn, Wp, atReturn, WpFn, Tables}
 use ghost.Atoms.{Atoms, sem}
 use contract.Monad.{Fun}
 use contract.Running.{givenOf, tables, tablesOf}
@@ -83,10 +84,7 @@ module _ {M : Type 1} (𝓤 : URA M) (H : Heap 𝓤) (A : Atoms 𝓤) (W : Given
   abbrev vp : Val
   vp = LL.val P.the-type P′.the-laws p
 
-  abbrev Arg : Type 0
-  Arg = Plan × (RefT (List Move) × Unit {0})
-
-  abbrev a : Arg
+  abbrev a : Plan × (RefT (List Move) × Unit {0})
   a = (p, (record { ptr = (b, o); name = γ; now = ys }, tt))
 
   abbrev vals : List Val × (List Val × Unit {0})
@@ -136,12 +134,6 @@ module _ {M : Type 1} (𝓤 : URA M) (H : Heap 𝓤) (A : Atoms 𝓤) (W : Given
   nearer-wf = InvImage·wf (λ (i : Upto). n - i .0) (Nat·lt-wfRel .wf)
 
   module _ (𝓣 : Tables 𝓤 H) (known : Triple 𝓤 (𝓣 .C #planner·move-at) (MoveAt 𝓤 H A at-mem run)) (l₀ l₁ l₂ l₃ l₄ l₅ l₆ l₇ l₈ : ℕ) where
-    abbrev C : Calls 𝓤 H
-    C = 𝓣 .C
-
-    abbrev Λ : Loops 𝓤 H
-    Λ = 𝓣 .Λ
-
     abbrev En : Env 𝓤 H
     En = (tyUnit, l₀) ∷ (P′.mir, l₁) ∷ (list (named 0), l₂) ∷ (word, l₃) ∷ (word, l₄) ∷ (tyBool, l₅) ∷ (Mv′.mir, l₆) ∷ (word, l₇) ∷ (tyPtr, l₈) ∷ []
 
@@ -156,9 +148,9 @@ module _ {M : Type 1} (𝓤 : URA M) (H : Heap 𝓤) (A : Atoms 𝓤) (W : Given
 
     -- a turn ends nearer to n, or the loop is left and the rest of the body runs
     abbrev Turned : Upto → Out → SProp 𝓤
-    Turned i = afterTurn 𝓤 H (Below 𝓤 H A Nearer At i) (afterBlock 𝓤 H (afterSeq 𝓤 H (Wp 𝓤 H C Λ En body.t-4 (atReturn 𝓤 H En Post)) (atReturn 𝓤 H En Post)))
+    Turned i = afterTurn 𝓤 H (Below 𝓤 H A Nearer At i) (afterBlock 𝓤 H (afterSeq 𝓤 H (Wp 𝓤 H (𝓣 .C) (𝓣 .Λ) En body.t-4 (atReturn 𝓤 H En Post)) (atReturn 𝓤 H En Post)))
 
-    more : (i : Upto) → i .0 < n → Sq W (At i) (runs C Λ En body.turn-1 (anyQ (Turned i)))
+    more : (i : Upto) → i .0 < n → Sq W (At i) (runs (𝓣 .C) (𝓣 .Λ) En body.turn-1 (anyQ (Turned i)))
     unfolding afterTurn
     more i less =
         let within-list : i .0 < length (listed (i .0)) = omega (arith, length-listed (i .0) (i .1)) in
@@ -185,12 +177,12 @@ module _ {M : Type 1} (𝓤 : URA M) (H : Heap 𝓤) (A : Atoms 𝓤) (W : Given
         assigns-last ! (bin ! (val ! 12 refl) (lit ! tt) (record { fits = fits })) (from ! (stop !)) (store ! 12 refl (tt, record { fits = fits })) $
         forget ! 4 refl $ forget ! 6 refl $ forget ! 8 refl $ forget ! 10 refl $ again ! Nearer At i next (add-one-dec n (i .0) less))))
 
-    ends : (i : Upto) → i .0 ≡ n → Sq W (At i) (runs C Λ En body.turn-1 (anyQ (Turned i)))
+    ends : (i : Upto) → i .0 ≡ n → Sq W (At i) (runs (𝓣 .C) (𝓣 .Λ) En body.turn-1 (anyQ (Turned i)))
     unfolding afterTurn
     ends i all =
         assigns ! (bin ! (val ! 12 refl) (val ! 14 refl) tt) (from ! (stop !)) (init ! 10 refl (tt, tt)) $
         rewrite ! 10 (λ (t : Bool). ‵ (fat fullShare tyBool l₅ 0 (vbool t))) (le-ltb (i .0) n (omega arith)) refl $ leaves-loop ! (val ! 10 refl) $
-        exec ! C Λ En body.t-4 (atRet En Post) $ assigns ! (of-opd ! (unit-lit !)) (from ! (stop !)) (init ! 20 refl (tt, tt)) $
+        exec ! (𝓣 .C) (𝓣 .Λ) En body.t-4 (atRet En Post) $ assigns ! (of-opd ! (unit-lit !)) (from ! (stop !)) (init ! 20 refl (tt, tt)) $
         rewrite ! 0 (λ (k : ℕ). ‵ (row Mv.the-row fullShare (listed k) b o)) all refl $ closes-slice ! tt Mv.the-row ys (listed n) (length-listed n (omega arith)) b o $
         use1 W (‵ (fres γ (codedHoleys Mv.the-row .code (heres Mv.the-row (listed n))))) (W .names .obs-res γ (codedHoleys Mv.the-row .code (heres Mv.the-row (listed n)))) $
         use1 W (‵ (finally Mv.the-row γ (listed n))) (res-finally 𝓤 H A W (named 0) κ Mv.the-row γ (listed n)) $
@@ -199,16 +191,16 @@ module _ {M : Type 1} (𝓤 : URA M) (H : Heap 𝓤) (A : Atoms 𝓤) (W : Given
         let-go ! $ let-go ! $ let-go ! $ let-go ! $ let-go ! $ let-go ! $ free1 ! $ free1 ! $ free1 ! $ free0 ! $
         keep ! (2 ∷ 0 ∷ []) $ by ! exits
 
-    turns : (i : Upto) → Sq W (At i) (runs C Λ En body.turn-1 (anyQ (Turned i)))
+    turns : (i : Upto) → Sq W (At i) (runs (𝓣 .C) (𝓣 .Λ) En body.turn-1 (anyQ (Turned i)))
     turns i = go (decLt (i .0) n)
       where
-        go : Dec (i .0 < n) → Sq W (At i) (runs C Λ En body.turn-1 (anyQ (Turned i)))
+        go : Dec (i .0 < n) → Sq W (At i) (runs (𝓣 .C) (𝓣 .Λ) En body.turn-1 (anyQ (Turned i)))
         go (yes less) = more i less
         go (no over) = ends i (omega (arith, i .1))
 
     -- up to the loop: the borrow is opened
     starts : Sq W (empty tyPtr l₈ (empty word l₇ (empty Mv′.mir l₆ (empty tyBool l₅ (empty word l₄ (empty word l₃ (Kept ((‵ (flft κ q) ⊛ ‵ ftrue) ∷ ‵ (owns (P.the-row ∷ MutSlice (named 0) κ Mv.the-row ∷ []) a vals) ∷ []))))))))
-        (runs C Λ En body.t-1 (atRet En Post))
+        (runs (𝓣 .C) (𝓣 .Λ) En body.t-1 (atRet En Post))
     starts =
         assigns ! (of-opd ! (load ! (from ! (fld ! refl (stop !))) (look-in ! 14 (sub ! 0 refl (whole !))))) (from ! (stop !)) (init ! 10 refl (tt, record { fits = omega arith })) $
         assigns ! (of-opd ! (lit ! tt)) (from ! (stop !)) (init ! 8 refl (tt, record { fits = lit< tt })) $

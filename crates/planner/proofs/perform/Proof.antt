@@ -1,4 +1,5 @@
--- `planner::perform` meets its contract: a walk of its MIR, by hand. All that it knows of `calls::run` and of `fill` is that each meets its contract. Each is called at its borrow's own lifetime, share and ghost name: both borrows are given up for good (`gave-slice`).
+-- `planner::perform` meets its contract: a walk of its MIR, by hand. All that it knows of `calls::run` and of `fill` is that each meets its
+-- contract. Each is called at its borrow's own lifetime, share and ghost name: both borrows are given up for good (`gave-slice`).
 use mathlib.Core.Path.{_≡_, refl, ap, subst}
 use mathlib.Core.List.{List, [], _∷_, _++_}
 use Prim.Native.Nat.{ℕ, _^_, _≤_, _<_}
@@ -91,10 +92,7 @@ module _ {M : Type 1} (𝓤 : URA M) (H : Heap 𝓤) (A : Atoms 𝓤) (W : Given
   abbrev vc : Val
   vc = EL.val Cl.the-type Cl′.the-laws c
 
-  abbrev Arg : Type 0
-  Arg = ℕ × (RefT (List ℕ) × (RefT (List Move) × (Call × Unit {0})))
-
-  abbrev a : Arg
+  abbrev a : ℕ × (RefT (List ℕ) × (RefT (List Move) × (Call × Unit {0})))
   a = (h, (x, (y, (c, tt))))
 
   abbrev vals : List Val × (List Val × (List Val × (List Val × Unit {0})))

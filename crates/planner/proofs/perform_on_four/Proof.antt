@@ -1,4 +1,5 @@
--- `planner::perform_on_four` meets its contract: a walk of its MIR, by hand. The array is lent to `perform` for a lifetime that is made for the call, and taken back when it has ended; all that the walk knows of `perform` is that it meets its contract.
+-- `planner::perform_on_four` meets its contract: a walk of its MIR, by hand. The array is lent to `perform` for a lifetime that is made for the
+-- call, and taken back when it has ended. All that the walk knows of `perform` is that it meets its contract.
 use mathlib.Core.Path.{_≡_, refl, ap, subst}
 use mathlib.Core.List.{List, [], _∷_}
 use Prim.Native.Nat.{ℕ, _^_, _<_}
@@ -98,10 +99,7 @@ module _ {M : Type 1} (𝓤 : URA M) (H : Heap 𝓤) (A : Atoms 𝓤) (W : Given
   abbrev vc : Val
   vc = EL.val Cl.the-type Cl′.the-laws c
 
-  abbrev Arg : Type 0
-  Arg = ℕ × (RefT (List ℕ) × (Call × Unit {0}))
-
-  abbrev a : Arg
+  abbrev a : ℕ × (RefT (List ℕ) × (Call × Unit {0}))
   a = (h, (x, (c, tt)))
 
   abbrev vals : List Val × (List Val × (List Val × Unit {0}))
