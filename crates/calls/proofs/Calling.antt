@@ -1,86 +1,89 @@
 -- From a call's arguments to what its table decides.
 use mathlib.Core.Path.{_≡_, refl, sym, ap, _∙_}
-use mathlib.Core.Bool.{Bool, true, false, not}
-use mathlib.Core.List.{List, [], _∷_, _++_}
-use Prim.Native.Nat.{ℕ, zero, suc, _^_, _≤_, _<_}
+use mathlib.Core.Bool.{not}
+use mathlib.Core.List.{List, _∷_, _++_}
+use Prim.Native.Nat.{ℕ, _≤_}
 use native.Mathlib.Omega.{arith}
-use borrow.Author.Tests.{lt-ltb, le-ltb, ltb-false, eqb-true, not-false}
+use borrow.Author.Tests.{ltb-false, eqb-true, ne-eqb, not-false}
 use lib.Dec.{eqb, ltb}
 use lib.ListN.{length}
-use Rattle.table.specs.Table.{nodeAt, in-order?}
-use Rattle.calls.specs.Call.{Call, grant-level, grant-pages, release, levelFor}
-use Rattle.calls.specs.Step.{Outcome, refused, Check, check, first, reserve-checks, list-checks, grant-holdings, unless, accepted, checks, step}
-use Rattle.calls.specs.Changes.{Ready, grantOn, releaseOn}
-use Rattle.calls.proofs.Checks.{Numbered, first-after-none, first-stands, not-applied, rest-zero}
+use Rattle.table.specs.Table.{in-order?}
+use Rattle.calls.specs.Call.{Call, grant-level, grant-pages, release, tenantOf, levelFor}
+use Rattle.calls.specs.Step.{refused, Check, check, first, reserve-checks, validity, holdings, unless, accepted, step}
+use Rattle.calls.specs.Changes.{wantedBy, Ready, grantOn, releaseOn, changeOn}
+use Rattle.calls.specs.Demand.{by-level, by-pages}
+use Rattle.calls.specs.Value.{callOf}
+use Rattle.calls.specs.declared.Call.{Call as Arguments}
+use Rattle.calls.specs.declared.Call.the-variants.{GrantLevel, GrantPages, Release}
+use Rattle.calls.proofs.Checks.{Numbered, validity-numbered, first-after-none, first-stands, not-applied, rest-zero, valid-tenant, valid-level}
 use Rattle.calls.proofs.Opening.{refused-unless}
 
--- 1 to 4
-abbrev pub arguments : ℕ → List ℕ → ℕ → ℕ → List Check
-arguments h T t m = reserve-checks h T ++ list-checks t m
+-- 1 to 6
+abbrev pub arguments : ℕ → List ℕ → Call → List Check
+arguments h T c = reserve-checks h T ++ validity h c
 
-arguments-numbered : (h : ℕ) (T : List ℕ) (t m : ℕ) → Numbered (arguments h T t m)
-arguments-numbered h T t m = (omega arith, (omega arith, (omega arith, (omega arith, tt))))
+pub arguments-numbered : (h : ℕ) (T : List ℕ) (c : Call) → Numbered (arguments h T c)
+arguments-numbered h T c = (omega arith, (omega arith, validity-numbered h c))
 
--- a call whose checks are those of its arguments and then others
-module _ (h : ℕ) (T : List ℕ) (t m k : ℕ) (c : Call) (rest : List Check) (these : checks h T c ≡ arguments h T t m ++ rest)
-    (asked : k ≡ first (arguments h T t m)) where
-  refused-by-arguments : ¬ (k ≡ 0) → refused k T ≡ step h T c
-  unfolding step
-  refused-by-arguments ne =
+module _ (h : ℕ) (T : List ℕ) (c : Call) (k : ℕ) (asked : k ≡ first (arguments h T c)) where
+  by-table : List Check
+  by-table = check 7 (not (in-order? h T)) ∷ holdings h T c
+
+  pub call-refused : ¬ (k ≡ 0) → refused k T ≡ step h T c
+  unfolding step by-table
+  call-refused ne =
       refused-unless k T (accepted h T c) ne
-      ∙ ap (λ (n : ℕ). unless n T (accepted h T c)) (asked ∙ sym (first-stands (arguments h T t m) rest (λ z. ne (asked ∙ z))) ∙ sym (ap first these))
-
-  by-the-rest : k ≡ 0 → unless (first rest) T (accepted h T c) ≡ step h T c
-  unfolding step
-  by-the-rest z =
-      ap (λ (n : ℕ). unless n T (accepted h T c))
-      (sym (first-after-none (arguments h T t m) rest (arguments-numbered h T t m) (sym asked ∙ z)) ∙ sym (ap first these))
-
-module _ (h : ℕ) (T : List ℕ) (t m k : ℕ) (asked : k ≡ first (arguments h T t m)) where
-  pub level-call-refused : (l : ℕ) → ¬ (k ≡ 0) → refused k T ≡ step h T (grant-level t l m)
-  level-call-refused l = refused-by-arguments h T t m k (grant-level t l m) _ refl asked
-
-  pub pages-call-refused : (p : ℕ) → ¬ (k ≡ 0) → refused k T ≡ step h T (grant-pages t p m)
-  pages-call-refused p = refused-by-arguments h T t m k (grant-pages t p m) _ refl asked
-
-  pub release-call-refused : ¬ (k ≡ 0) → refused k T ≡ step h T (release t m)
-  release-call-refused = refused-by-arguments h T t m k (release t m) _ refl asked
+      ∙ ap (λ (n : ℕ). unless n T (accepted h T c)) (asked ∙ sym (first-stands (arguments h T c) by-table (λ z. ne (asked ∙ z))))
 
   module _ (none : k ≡ 0) where
-    pub level-too-high : (l : ℕ) → h < l → refused 5 T ≡ step h T (grant-level t l m)
-    level-too-high l q = rw (lt-ltb h l q) at (by-the-rest h T t m k (grant-level t l m) (check 5 (ltb h l) ∷ check 7 (not (in-order? h T)) ∷ grant-holdings h T t l) refl asked none)
+    decided : unless (first by-table) T (accepted h T c) ≡ step h T c
+    unfolding step by-table
+    decided = ap (λ (n : ℕ). unless n T (accepted h T c)) (sym (first-after-none (arguments h T c) by-table (arguments-numbered h T c) (sym asked ∙ none)))
 
-    pub level-call : (l : ℕ) → l ≤ h → grantOn h T t l ≡ step h T (grant-level t l m)
-    unfolding grantOn
-    level-call l q = rw (le-ltb h l q) at (by-the-rest h T t m k (grant-level t l m) (check 5 (ltb h l) ∷ check 7 (not (in-order? h T)) ∷ grant-holdings h T t l) refl asked none)
+    height-checked : h ≤ 12
+    height-checked = ltb-false 12 h (not-applied 1 (ltb 12 h) (check 2 (not (eqb (length T) 4096)) ∷ validity h c) (omega arith) (sym asked ∙ none))
 
-    pub too-many-pages : (p : ℕ) → 2 ^ h < p → refused 6 T ≡ step h T (grant-pages t p m)
-    too-many-pages p q =
-        rw (lt-ltb (2 ^ h) p q) at
-        (by-the-rest h T t m k (grant-pages t p m) (check 6 (ltb (2 ^ h) p) ∷ check 7 (not (in-order? h T)) ∷ grant-holdings h T t (levelFor p)) refl asked none)
+    length-checked : first (check 2 (not (eqb (length T) 4096)) ∷ validity h c) ≡ 0
+    length-checked = rest-zero 1 (ltb 12 h) (check 2 (not (eqb (length T) 4096)) ∷ validity h c) (omega arith) (sym asked ∙ none)
 
-    pub pages-call : (p : ℕ) → p ≤ 2 ^ h → grantOn h T t (levelFor p) ≡ step h T (grant-pages t p m)
-    unfolding grantOn
-    pages-call p q =
-        rw (le-ltb (2 ^ h) p q) at
-        (by-the-rest h T t m k (grant-pages t p m) (check 6 (ltb (2 ^ h) p) ∷ check 7 (not (in-order? h T)) ∷ grant-holdings h T t (levelFor p)) refl asked none)
+    pub valid : first (validity h c) ≡ 0
+    valid = rest-zero 2 (not (eqb (length T) 4096)) (validity h c) (omega arith) length-checked
 
-    pub release-call : releaseOn h T t ≡ step h T (release t m)
-    unfolding releaseOn
-    release-call = by-the-rest h T t m k (release t m) _ refl asked none
+    pub ready : Ready h T (tenantOf c)
+    ready = record {
+      height = height-checked;
+      entries = eqb-true (length T) 4096 (not-false (eqb (length T) 4096) (not-applied 2 (not (eqb (length T) 4096)) (validity h c) (omega arith) length-checked));
+      tenant = valid-tenant h c valid;
+    }
 
-    -- 1, 2 and 4 do not apply
-    pub ready : (l : ℕ) → l ≤ h → Ready h T t l
-    ready l q =
-        let z : first (arguments h T t m) ≡ 0 = sym asked ∙ none in
-        let lists = list-checks t m in
-        let two = check 2 (not (eqb (length T) 4096)) ∷ lists in
-        let z₂ = rest-zero 1 (ltb 12 h) two (omega arith) z in
-        let z₃ = rest-zero 2 (not (eqb (length T) 4096)) lists (omega arith) z₂ in
-        let z₄ = rest-zero 3 (ltb m 4) (check 4 (ltb 4095 t) ∷ []) (omega arith) z₃ in
-        record {
-          height = ltb-false 12 h (not-applied 1 (ltb 12 h) two (omega arith) z);
-          entries = eqb-true (length T) 4096 (not-false (eqb (length T) 4096) (not-applied 2 (not (eqb (length T) 4096)) lists (omega arith) z₂));
-          tenant = omega (arith, ltb-false 4095 t (not-applied 4 (ltb 4095 t) [] (omega arith) z₄));
-          in-height = q;
-        }
+    pub in-height : ¬ (wantedBy c ≡ 13) → wantedBy c ≤ h
+    in-height = go c valid
+      where
+        go : (c : Call) → first (validity h c) ≡ 0 → ¬ (wantedBy c ≡ 13) → wantedBy c ≤ h
+        go (grant-level t l m) v ne = valid-level h (grant-level t l m) l by-level v
+        go (grant-pages t p m) v ne = valid-level h (grant-pages t p m) (wantedBy (grant-pages t p m)) by-pages v
+        go (release t m) v ne = absurd (ne refl)
+
+    pub call-changes : changeOn h T (tenantOf c) (wantedBy c) ≡ step h T c
+    unfolding changeOn grantOn releaseOn by-table
+    call-changes = go c valid ∙ decided
+      where
+        go : (c : Call) → first (validity h c) ≡ 0 → changeOn h T (tenantOf c) (wantedBy c) ≡ unless (first (check 7 (not (in-order? h T)) ∷ holdings h T c)) T (accepted h T c)
+        go (grant-level t l m) v =
+            let low = valid-level h (grant-level t l m) l by-level v in
+            rw (ne-eqb l 13 (λ e. omega (arith, low, height-checked)))
+        go (grant-pages t p m) v =
+            let low = valid-level h (grant-pages t p m) (levelFor p) by-pages v in
+            rw (ne-eqb (levelFor p) 13 (λ e. omega (arith, low, height-checked)))
+        go (release t m) v = refl
+
+-- the entries lent do not matter for the tenant and what is wanted
+pub same-tenant : (c : Arguments) (m : ℕ) → tenantOf (callOf c 0) ≡ tenantOf (callOf c m)
+same-tenant (GrantLevel t l) m = refl
+same-tenant (GrantPages t p) m = refl
+same-tenant (Release t) m = refl
+
+pub same-wanted : (c : Arguments) (m : ℕ) → wantedBy (callOf c 0) ≡ wantedBy (callOf c m)
+same-wanted (GrantLevel t l) m = refl
+same-wanted (GrantPages t p) m = refl
+same-wanted (Release t) m = refl

@@ -1,20 +1,18 @@
 -- The ways that a grant and a release with valid arguments can go.
-use mathlib.Core.Path.{_≡_, refl, sym, ap, _∙_}
-use mathlib.Core.Bool.{Bool, true, false, not}
-use mathlib.Core.List.{List, [], _∷_, _++_}
-use Prim.Native.Nat.{ℕ, zero, suc, _+_, _^_, _≤_, _<_}
-use native.Mathlib.Omega.{arith}
-use native.Mathlib.Nat.{eq-zero-or-pos}
+use mathlib.Core.Path.{_≡_, sym, subst, _∙_}
+use mathlib.Core.Bool.{true, false}
+use mathlib.Core.List.{List}
+use Prim.Native.Nat.{ℕ, _+_, _^_, _≤_, _<_}
+use native.Mathlib.Decide.{ℕ-discrete}
 use borrow.Author.Tests.{lt-ltb, le-ltb, eq-eqb, ne-eqb}
-use lib.Dec.{eqb, ltb}
-use lib.ListN.{length}
 use Rattle.tree.specs.Node.{level}
 use Rattle.layout.specs.Layout.{pages}
 use Rattle.layout.specs.Set.{layoutSet}
 use Rattle.layout.specs.Change.{oneMore, oneFewer}
 use Rattle.table.specs.Table.{nodeAt, countsOf, in-order?}
-use Rattle.calls.specs.Step.{Outcome, refused, granted, released}
-use Rattle.calls.specs.Changes.{grantOn, releaseOn}
+use Rattle.calls.specs.Step.{refused, granted, released}
+use Rattle.table.specs.Owners.{ownersOf}
+use Rattle.calls.specs.Changes.{Looked, grantOn, releaseOn, changeOn}
 
 module _ (h : ℕ) (T : List ℕ) (t : ℕ) where
   module _ (l : ℕ) where
@@ -49,3 +47,27 @@ module _ (h : ℕ) (T : List ℕ) (t : ℕ) where
         → released h T (layoutSet h (oneFewer (countsOf h T) (level h (nodeAt T t)))) t ≡ releaseOn h T t
     unfolding releaseOn
     release-by-holder p = rw (e, ne-eqb (nodeAt T t) 0 p)
+
+  -- by the level wanted
+  pub change-releases : (w : ℕ) → w ≡ 13 → releaseOn h T t ≡ changeOn h T t w
+  unfolding changeOn
+  change-releases w e = rw (eq-eqb w 13 e)
+
+  pub change-grants : (w : ℕ) → ¬ (w ≡ 13) → grantOn h T t w ≡ changeOn h T t w
+  unfolding changeOn
+  change-grants w ne = rw (ne-eqb w 13 ne)
+
+  pub change-disordered : (w : ℕ) → in-order? h T ≡ false → refused 7 T ≡ changeOn h T t w
+  change-disordered w e = go (ℕ-discrete w 13)
+    where
+      go : Dec (w ≡ 13) → refused 7 T ≡ changeOn h T t w
+      go (yes p) = release-disordered e ∙ change-releases w p
+      go (no ne) = grant-disordered w e ∙ change-grants w ne
+
+-- what holds of the table's own counts and owners holds of those that were looked up, and the other way round
+module _ {h : ℕ} {T cs o : List ℕ} (P : List ℕ → List ℕ → Type 0) (l : Looked h T cs o) where
+  pub of-looked : P (countsOf h T) (ownersOf 8192 T) → P cs o
+  of-looked p = subst (λ (xs : List ℕ). P xs o) (sym (l .counts)) (subst (P (countsOf h T)) (sym (l .owners)) p)
+
+  pub of-table : P cs o → P (countsOf h T) (ownersOf 8192 T)
+  of-table p = subst (P (countsOf h T)) (l .owners) (subst (λ (xs : List ℕ). P xs o) (l .counts) p)

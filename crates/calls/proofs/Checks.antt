@@ -1,18 +1,20 @@
 -- Which number a call answers on a table in order.
-use mathlib.Core.Path.{_≡_, refl, sym, ap, _∙_}
-use mathlib.Core.Bool.{Bool, true, false, not, cond}
+use mathlib.Core.Path.{_≡_, refl, _∙_}
+use mathlib.Core.Bool.{Bool, true, false, cond}
 use mathlib.Core.List.{List, [], _∷_, _++_}
-use mathlib.Core.Logic.{_⊎_, inl, inr}
-use Prim.Native.Nat.{ℕ, zero, suc, _+_, _^_, _≤_, _<_}
+use Prim.Native.Nat.{ℕ, zero, suc, _^_, _≤_, _<_}
 use native.Mathlib.Omega.{arith}
-use borrow.Author.Tests.{ltb-true, ltb-false, eq-eqb, le-ltb, lt-ltb}
-use lib.Dec.{eqb, ltb}
+use borrow.Author.Tests.{ltb-false, eq-eqb, le-ltb}
+use lib.Dec.{ltb}
 use lib.ListN.{length}
-use Rattle.layout.specs.Layout.{pages}
-use Rattle.table.specs.Table.{nodeAt, countsOf, in-order?}
+use Rattle.table.specs.Table.{in-order?}
 use Rattle.calls.specs.Call.{Call, grant-level, grant-pages, release, tenantOf}
 use Rattle.calls.specs.Step.{Check, check, first, list-checks, validity, holdings, checks, unless, accepted, step}
 use Rattle.calls.specs.Demand.{Asks, by-level, by-pages}
+use Rattle.calls.specs.Changes.{size-checks}
+use Rattle.calls.specs.Value.{callOf}
+use Rattle.calls.specs.declared.Call.{Call as Arguments}
+use Rattle.calls.specs.declared.Call.the-variants.{GrantLevel, GrantPages, Release}
 use Rattle.calls.proofs.Level.{level-for-le}
 
 -- on a table in order of 4,096 entries, at a height up to 12, only 3 to 6 and 8 to 10 can apply
@@ -99,3 +101,9 @@ pub valid-level : (h : ℕ) (c : Call) (l : ℕ) → Asks c l → first (validit
 valid-level h c l (by-level {t = t} {l = k} {m = m}) v = ltb-false h k (not-applied 5 (ltb h k) [] (omega arith) (size-check t m (check 5 (ltb h k)) v))
 valid-level h c l (by-pages {t = t} {p = p} {m = m}) v =
     level-for-le p h (ltb-false (2 ^ h) p (not-applied 6 (ltb (2 ^ h) p) [] (omega arith) (size-check t m (check 6 (ltb (2 ^ h) p)) v)))
+
+-- 3 to 6 are 3 and 4, and then what is asked for
+pub validity-parts : (h : ℕ) (c : Arguments) (m : ℕ) → validity h (callOf c m) ≡ list-checks (tenantOf (callOf c 0)) m ++ size-checks h (callOf c 0)
+validity-parts h (GrantLevel t l) m = refl
+validity-parts h (GrantPages t p) m = refl
+validity-parts h (Release t) m = refl

@@ -16,3 +16,4 @@ pub mod Carried
 pub mod Changed
 pub mod Changing
 pub mod Calling
+pub mod Entries

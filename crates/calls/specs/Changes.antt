@@ -1,9 +1,9 @@
 -- What the inner functions of a grant and a release ask and give.
 use mathlib.Core.Path.{_≡_}
-use mathlib.Core.Bool.{not}
+use mathlib.Core.Bool.{true, not, cond}
 use mathlib.Core.List.{List, [], _∷_}
 use Prim.Native.Nat.{ℕ, _^_, _≤_, _<_}
-use lib.Dec.{eqb}
+use lib.Dec.{eqb, ltb}
 use lib.ListN.{length, getD}
 use Rattle.tree.specs.Node.{level}
 use Rattle.layout.specs.Layout.{pages}
@@ -11,16 +11,35 @@ use Rattle.layout.specs.Change.{oneMore, oneFewer}
 use Rattle.layout.specs.Rows.{rowsOf}
 use Rattle.layout.specs.Set.{layoutSet}
 use Rattle.table.specs.Table.{nodeAt, countsOf, in-order?}
+use Rattle.table.specs.Owners.{ownersOf}
 use Rattle.table.specs.Plan.{Plannable, AllPlanned}
 use Rattle.table.specs.declared.plan.Planned.{Planned}
-use Rattle.calls.specs.Step.{Outcome, check, first, grant-holdings, granted, released, unless}
+use Rattle.calls.specs.Call.{Call, grant-level, grant-pages, release, levelFor}
+use Rattle.calls.specs.Step.{Outcome, Check, check, first, grant-holdings, granted, released, unless}
 
--- the arguments have passed 1 to 6
-pub record Ready (h : ℕ) (T : List ℕ) (t l : ℕ) : Type 0 where
+-- the level of the block that a call asks for; 13, which no tree has, for a release
+abbrev pub wantedBy : Call → ℕ
+wantedBy (grant-level t l m) = l
+wantedBy (grant-pages t p m) = levelFor p
+wantedBy (release t m) = 13
+
+-- 5 and 6: what a call asks for
+abbrev pub size-checks : ℕ → Call → List Check
+size-checks h (grant-level t l m) = check 5 (ltb h l) ∷ []
+size-checks h (grant-pages t p m) = check 6 (ltb (2 ^ h) p) ∷ []
+size-checks h (release t m) = []
+
+-- the arguments have passed 1, 2 and 4
+pub record Ready (h : ℕ) (T : List ℕ) (t : ℕ) : Type 0 where
   pub height : h ≤ 12
   pub entries : length T ≡ 4096
   pub tenant : t < 4096
-  pub in-height : l ≤ h
+
+-- the table is in order, cs are its counts, and o has the owner of each node
+pub record Looked (h : ℕ) (T cs o : List ℕ) : Type 0 where
+  pub in-order : in-order? h T ≡ true
+  pub counts : cs ≡ countsOf h T
+  pub owners : o ≡ ownersOf 8192 T
 
 -- the counts before and after fit, and the planner may be asked for their layouts
 pub record GrantPlannable (h : ℕ) (cs : List ℕ) (l : ℕ) (owners : List ℕ) : Type 0 where
@@ -53,3 +72,7 @@ unfoldable pub releaseOn : ℕ → List ℕ → ℕ → Outcome
 releaseOn h T t =
     unless (first (check 7 (not (in-order? h T)) ∷ check 9 (eqb (nodeAt T t) 0) ∷ [])) T
     (released h T (layoutSet h (oneFewer (countsOf h T) (level h (nodeAt T t)))) t)
+
+-- either, by the level wanted
+unfoldable pub changeOn : ℕ → List ℕ → ℕ → ℕ → Outcome
+changeOn h T t w = cond (eqb w 13) (releaseOn h T t) (grantOn h T t w)

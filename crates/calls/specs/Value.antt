@@ -3,12 +3,21 @@ use mathlib.Core.List.{List, []}
 use Prim.Native.Nat.{ℕ, _≤_, _<_}
 use lib.ListN.{length, getD}
 use Rattle.table.specs.declared.plan.Plan.{Plan}
+use Rattle.calls.specs.Call.{Call, grant-level, grant-pages, release}
 use Rattle.calls.specs.Step.{Outcome}
 use Rattle.calls.specs.Accepted.{nobody}
 use Rattle.table.specs.Plan.{movesIn}
 use Rattle.calls.specs.declared.Answer.{Answer}
+use Rattle.calls.specs.declared.Call.{Call as Arguments}
+use Rattle.calls.specs.declared.Call.the-variants.{GrantLevel, GrantPages, Release}
 use Rattle.calls.specs.declared.Called.{Called}
 use Rattle.calls.specs.declared.Answer.the-variants.{Done, Refused}
+
+-- the call, given the number of entries lent
+abbrev pub callOf : Arguments → ℕ → Call
+callOf (GrantLevel t l) m = grant-level t l m
+callOf (GrantPages t p) m = grant-pages t p m
+callOf (Release t) m = release t m
 
 -- 0 is done, else the refusal's number
 abbrev pub numberOf : Answer → ℕ

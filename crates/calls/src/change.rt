@@ -4,7 +4,7 @@ ghost use Prim.Native.Nat.{_+_, _^_, _≤_};
 ghost use lib.Dec.{leb};
 ghost use Rattle.layout.specs.Layout.{pages};
 ghost use Rattle.calls.specs.Value.{valueOf};
-ghost use Rattle.calls.specs.Changes.{Ready, grantOn, releaseOn};
+ghost use Rattle.calls.specs.Changes.{Ready, Looked, grantOn, releaseOn, changeOn};
 use crate::Answer;
 use crate::Called;
 use crate::carry::carry_out;
@@ -24,10 +24,12 @@ fn has_room(height: u16, counts: Counts, level: u16) -> bool
     held + more <= all
 }
 
-// Grants the tenant a block of the level, unless the table refuses it.
-pub fn grant(height: u16, table: &mut [u16], tenant: u16, level: u16) -> Called
-    requires { ⌜ Ready height (now table) tenant level ⌝ }
-    ensures value { λ r. ⌜ valueOf r (now (table .exit)) ≡ grantOn height (now (table .entry)) tenant level ⌝ }
+// Grants the tenant a block of the level wanted, or gives its block up where that is 13, unless the table refuses it. Both go through this one
+// function, so that the owners stand on the stack once.
+pub fn change(height: u16, table: &mut [u16], tenant: u16, wanted: u16) -> Called
+    requires ready { ⌜ Ready height (now table) tenant ⌝ }
+    requires level { ⌜ (¬ (wanted ≡ 13) → wanted ≤ height) ⌝ }
+    ensures value { λ r. ⌜ valueOf r (now (table .exit)) ≡ changeOn height (now (table .entry)) tenant wanted ⌝ }
     ensures few { λ r. ⌜ r .plan .n ≤ 4 ⌝ }
 {
     let mut owners = [0u16; 8192];
@@ -35,15 +37,36 @@ pub fn grant(height: u16, table: &mut [u16], tenant: u16, level: u16) -> Called
     if !found.in_order {
         return refused(7);
     }
+    let counts = found.counts;
+    if wanted == 13 {
+        return give_up(height, table, tenant, counts, &owners);
+    }
+    grant(height, table, tenant, wanted, counts, &owners)
+}
+
+// Grants the tenant a block of the level on a table in order, unless it holds one or there is no room.
+fn grant(
+    height: u16,
+    table: &mut [u16],
+    tenant: u16,
+    level: u16,
+    counts: Counts,
+    owners: &[u16; 8192],
+) -> Called
+    requires ready { ⌜ Ready height (now table) tenant ⌝ }
+    requires level { ⌜ level ≤ height ⌝ }
+    requires looked { ⌜ Looked height (now table) (counts .at) (now owners) ⌝ }
+    ensures value { λ r. ⌜ valueOf r (now (table .exit)) ≡ grantOn height (now (table .entry)) tenant level ⌝ }
+    ensures few { λ r. ⌜ r .plan .n ≤ 4 ⌝ }
+{
     let t = tenant as usize;
     if table[t] != 0 {
         return refused(8);
     }
-    let counts = found.counts;
     if !has_room(height, counts, level) {
         return refused(10);
     }
-    let planned = plan_grant(height, counts, level, &owners);
+    let planned = plan_grant(height, counts, level, owners);
     let node = planned.node;
     let plan = planned.plan;
     carry_out(table, plan);
@@ -54,24 +77,25 @@ pub fn grant(height: u16, table: &mut [u16], tenant: u16, level: u16) -> Called
     }
 }
 
-// Releases the tenant's block, unless the table refuses it.
-pub fn give_up(height: u16, table: &mut [u16], tenant: u16) -> Called
-    requires { ⌜ Ready height (now table) tenant 0 ⌝ }
+// Releases the tenant's block on a table in order, unless it holds none.
+fn give_up(
+    height: u16,
+    table: &mut [u16],
+    tenant: u16,
+    counts: Counts,
+    owners: &[u16; 8192],
+) -> Called
+    requires ready { ⌜ Ready height (now table) tenant ⌝ }
+    requires looked { ⌜ Looked height (now table) (counts .at) (now owners) ⌝ }
     ensures value { λ r. ⌜ valueOf r (now (table .exit)) ≡ releaseOn height (now (table .entry)) tenant ⌝ }
     ensures few { λ r. ⌜ r .plan .n ≤ 4 ⌝ }
 {
-    let mut owners = [0u16; 8192];
-    let found = survey::survey(height, table, &mut owners);
-    if !found.in_order {
-        return refused(7);
-    }
     let t = tenant as usize;
     let node = table[t];
     if node == 0 {
         return refused(9);
     }
-    let counts = found.counts;
-    let planned = plan_release(height, counts, node, &owners);
+    let planned = plan_release(height, counts, node, owners);
     let plan = planned.plan;
     table[t] = 0;
     carry_out(table, plan);

@@ -3,8 +3,9 @@ ghost use mathlib.Core.Path.{_≡_};
 ghost use mathlib.Core.List.{List};
 ghost use Prim.Native.Nat.{ℕ, _≤_};
 ghost use Rattle.calls.specs.Step.{open-reserve, refused as refusal, step};
-ghost use Rattle.calls.specs.Call.{grant-level, grant-pages, release as release-by};
-ghost use Rattle.calls.specs.Value.{numberOf, nodeIn, answered, valueOf};
+ghost use Rattle.calls.specs.Call.{grant-level, grant-pages, release as release-by, tenantOf};
+ghost use Rattle.calls.specs.Changes.{wantedBy};
+ghost use Rattle.calls.specs.Value.{callOf, numberOf, nodeIn, answered, valueOf};
 use table::plan::Plan;
 
 mod carry;
@@ -41,6 +42,37 @@ impl Answer {
     }
 }
 
+// A grant by level or by pages, or a release.
+pub enum Call {
+    GrantLevel { tenant: u16, level: u16 },
+    GrantPages { tenant: u16, pages: u16 },
+    Release { tenant: u16 },
+}
+
+impl Call {
+    // The tenant that the call is for.
+    pub fn tenant(self) -> u16
+        ensures { λ r. ⌜ r ≡ tenantOf (callOf self 0) ⌝ }
+    {
+        match self {
+            Call::GrantLevel { tenant, level: _ } => tenant,
+            Call::GrantPages { tenant, pages: _ } => tenant,
+            Call::Release { tenant } => tenant,
+        }
+    }
+
+    // The level of the block that the call asks for; 13 for a release.
+    fn wanted(self) -> u16
+        ensures { λ r. ⌜ r ≡ wantedBy (callOf self 0) ⌝ }
+    {
+        match self {
+            Call::GrantLevel { tenant: _, level } => level,
+            Call::GrantPages { tenant: _, pages } => request::level_for(pages),
+            Call::Release { tenant: _ } => 13,
+        }
+    }
+}
+
 // What a grant or a release reports: its answer, and the moves that it made.
 pub struct Called {
     pub answer: Answer,
@@ -70,7 +102,19 @@ pub fn open(height: u16, table: &mut [u16]) -> Answer
     Answer::Done { node: 0 }
 }
 
-// Grants a tenant a block of a level; `entries` is how many entries the lent move list has.
+// Runs a call; `entries` is how many entries the lent move list has.
+pub fn run(height: u16, table: &mut [u16], entries: usize, call: Call) -> Called
+    ensures value { λ r. ⌜ valueOf r (now (table .exit)) ≡ step height (now (table .entry)) (callOf call entries) ⌝ }
+    ensures few { λ r. ⌜ r .plan .n ≤ 4 ⌝ }
+{
+    let number = request::call_refusal(height, table.len(), entries, call);
+    if number != 0 {
+        return refused(number);
+    }
+    change::change(height, table, call.tenant(), call.wanted())
+}
+
+// Grants a tenant a block of a level.
 pub fn grant_level(
     height: u16,
     table: &mut [u16],
@@ -81,14 +125,7 @@ pub fn grant_level(
     ensures value { λ r. ⌜ valueOf r (now (table .exit)) ≡ step height (now (table .entry)) (grant-level tenant level entries) ⌝ }
     ensures few { λ r. ⌜ r .plan .n ≤ 4 ⌝ }
 {
-    let number = request::refusal(height, table.len(), entries, tenant);
-    if number != 0 {
-        return refused(number);
-    }
-    if height < level {
-        return refused(5);
-    }
-    change::grant(height, table, tenant, level)
+    run(height, table, entries, Call::GrantLevel { tenant, level })
 }
 
 // Grants a tenant the smallest block that has so many pages.
@@ -102,14 +139,7 @@ pub fn grant_pages(
     ensures value { λ r. ⌜ valueOf r (now (table .exit)) ≡ step height (now (table .entry)) (grant-pages tenant pages entries) ⌝ }
     ensures few { λ r. ⌜ r .plan .n ≤ 4 ⌝ }
 {
-    let number = request::refusal(height, table.len(), entries, tenant);
-    if number != 0 {
-        return refused(number);
-    }
-    if layout::power(height) < pages {
-        return refused(6);
-    }
-    change::grant(height, table, tenant, request::level_for(pages))
+    run(height, table, entries, Call::GrantPages { tenant, pages })
 }
 
 // Releases a tenant's block.
@@ -117,9 +147,5 @@ pub fn release(height: u16, table: &mut [u16], entries: usize, tenant: u16) -> C
     ensures value { λ r. ⌜ valueOf r (now (table .exit)) ≡ step height (now (table .entry)) (release-by tenant entries) ⌝ }
     ensures few { λ r. ⌜ r .plan .n ≤ 4 ⌝ }
 {
-    let number = request::refusal(height, table.len(), entries, tenant);
-    if number != 0 {
-        return refused(number);
-    }
-    change::give_up(height, table, tenant)
+    run(height, table, entries, Call::Release { tenant })
 }

@@ -2,9 +2,13 @@
 ghost use mathlib.Core.Path.{_≡_};
 ghost use mathlib.Core.Bool.{not};
 ghost use mathlib.Core.List.{[], _∷_, _++_};
+ghost use Prim.Native.Nat.{_≤_};
 ghost use lib.Dec.{eqb, ltb};
 ghost use Rattle.calls.specs.Call.{levelFor};
-ghost use Rattle.calls.specs.Step.{first, check, list-checks};
+ghost use Rattle.calls.specs.Step.{first, check, list-checks, validity};
+ghost use Rattle.calls.specs.Changes.{size-checks};
+ghost use Rattle.calls.specs.Value.{callOf};
+use crate::Call;
 
 // The level that a number of pages asks for: the smallest whose block has that many.
 pub fn level_for(pages: u16) -> u16
@@ -51,4 +55,29 @@ pub fn refusal(height: u16, length: usize, entries: usize, tenant: u16) -> u16
         return number;
     }
     list_refusal(entries, tenant)
+}
+
+// The number of the one of refusals 5 and 6 that applies to what a call asks for, or 0.
+fn size_refusal(height: u16, call: Call) -> u16
+    requires { ⌜ height ≤ 12 ⌝ }
+    ensures { λ r. ⌜ r ≡ first (size-checks height (callOf call 0)) ⌝ }
+{
+    match call {
+        Call::GrantLevel { tenant: _, level } => { if height < level { 5 } else { 0 } }
+        Call::GrantPages { tenant: _, pages } => {
+            if layout::power(height) < pages { 6 } else { 0 }
+        }
+        Call::Release { tenant: _ } => 0,
+    }
+}
+
+// The number of the first of refusals 1 to 6 that applies to a call, or 0.
+pub fn call_refusal(height: u16, length: usize, entries: usize, call: Call) -> u16
+    ensures { λ r. ⌜ r ≡ first ((check 1 (ltb 12 height) ∷ check 2 (not (eqb length 4096)) ∷ []) ++ validity height (callOf call entries)) ⌝ }
+{
+    let number = refusal(height, length, entries, call.tenant());
+    if number != 0 {
+        return number;
+    }
+    size_refusal(height, call)
 }

@@ -1,63 +1,23 @@
 -- From what a call does to a table to what the door reports and leaves in the bytes.
 use mathlib.Core.Path.{_≡_, refl, sym, ap, _∙_}
-use mathlib.Core.Bool.{not}
-use mathlib.Core.List.{List, [], _∷_, _++_, append-nil}
-use Prim.Native.Nat.{ℕ, zero, suc, _*_, _^_, _/_, _≤_}
+use mathlib.Core.List.{List, [], _++_, append-nil}
+use Prim.Native.Nat.{ℕ, _*_, _/_, _≤_}
 use native.Mathlib.Omega.{arith}
 use native.Mathlib.Decide.{ℕ-discrete}
-use borrow.Author.Tests.{eq-eqb, ne-eqb, eqb-true, ltb-false, not-false}
-use lib.Dec.{eqb, ltb}
+use borrow.Author.Tests.{eq-eqb, ne-eqb}
 use lib.ListN.{length, take, drop, drop-of-length-le}
 use lib.Seq.{length-take-le, length-front}
-use Rattle.calls.specs.Call.{Call, grant-level, grant-pages, release}
-use Rattle.table.specs.Table.{in-order?}
-use Rattle.calls.specs.Step.{Outcome as Result, Check, check, first, validity, holdings, checks, accepted, unless, step, reserve-checks, open-reserve}
+use Rattle.calls.specs.Call.{Call}
+use Rattle.calls.specs.Step.{Outcome as Result, first, step, reserve-checks, open-reserve}
 use Rattle.calls.specs.Value.{numberOf, answered, valueOf}
 use Rattle.calls.specs.declared.Answer.{Answer}
 use Rattle.calls.specs.declared.Called.{Called}
 use Rattle.calls.proofs.Opening.{opened-table, table-length}
-use Rattle.calls.proofs.Cases.{both-zero}
-use Rattle.calls.proofs.Checks.{validity-numbered, not-applied, rest-zero}
+use Rattle.calls.proofs.Entries.{entriesOf, zero-passes, done-table, done-entries}
 use Rattle.reserve.specs.Image.{imageOf, tableOf, moveBytes}
 use Rattle.reserve.specs.Door.{Decoded, imageAfter, Reported, Enough}
 use Rattle.reserve.specs.declared.Outcome.{Outcome}
 use Rattle.reserve.proofs.Images.{table-of-other}
-
--- ---- an answer 0 shows that the arguments were as they should be
-
--- the entries of the move list of a call
-abbrev pub entriesOf : Call → ℕ
-entriesOf (grant-level t l m) = m
-entriesOf (grant-pages t p m) = m
-entriesOf (release t m) = m
-
-zero-passes : (k : ℕ) (T : List ℕ) (o : Result) → unless k T o .answer ≡ 0 → k ≡ 0
-zero-passes zero T o e = refl
-zero-passes (suc k) T o e = e
-
-valid-entries : (h : ℕ) (c : Call) → first (validity h c) ≡ 0 → 4 ≤ entriesOf c
-valid-entries h (grant-level t l m) e = ltb-false m 4 (not-applied 3 (ltb m 4) (check 4 (ltb 4095 t) ∷ check 5 (ltb h l) ∷ []) (omega arith) e)
-valid-entries h (grant-pages t p m) e = ltb-false m 4 (not-applied 3 (ltb m 4) (check 4 (ltb 4095 t) ∷ check 6 (ltb (2 ^ h) p) ∷ []) (omega arith) e)
-valid-entries h (release t m) e = ltb-false m 4 (not-applied 3 (ltb m 4) (check 4 (ltb 4095 t) ∷ []) (omega arith) e)
-
-module _ (h : ℕ) (T : List ℕ) (c : Call) (e : step h T c .answer ≡ 0) where
-  by-table : List Check
-  by-table = check 7 (not (in-order? h T)) ∷ holdings h T c
-
-  none-applies : first (check 1 (ltb 12 h) ∷ check 2 (not (eqb (length T) 4096)) ∷ (validity h c ++ by-table)) ≡ 0
-  unfolding step by-table
-  none-applies = zero-passes (first (checks h T c)) T (accepted h T c) e
-
-  not-1 : first (check 2 (not (eqb (length T) 4096)) ∷ (validity h c ++ by-table)) ≡ 0
-  not-1 = rest-zero 1 (ltb 12 h) (check 2 (not (eqb (length T) 4096)) ∷ (validity h c ++ by-table)) (omega arith) none-applies
-
-  done-table : length T ≡ 4096
-  done-table = eqb-true (length T) 4096 (not-false (eqb (length T) 4096) (not-applied 2 (not (eqb (length T) 4096)) (validity h c ++ by-table) (omega arith) not-1))
-
-  done-entries : 4 ≤ entriesOf c
-  done-entries =
-      let later = rest-zero 2 (not (eqb (length T) 4096)) (validity h c ++ by-table) (omega arith) not-1 in
-      valid-entries h c (both-zero (validity h c) by-table (validity-numbered h c) later .0)
 
 opening-table : (h : ℕ) (T : List ℕ) → open-reserve h T .answer ≡ 0 → length T ≡ 4096
 unfolding open-reserve

@@ -1,39 +1,48 @@
--- `calls::change::give_up` meets its contract: each refusal where its condition holds and those before it fail, and otherwise what the planner plans.
-use mathlib.Core.Path.{_≡_, refl, sym, ap, _∙_}
-use mathlib.Core.Bool.{Bool, true, false}
+-- `calls::change::give_up` meets its contract: a refusal where nothing is held, and otherwise what the planner plans.
+use mathlib.Core.Path.{_≡_, ap, _∙_}
 use mathlib.Core.List.{List}
 use Prim.Native.Nat.{ℕ, _<_}
 use native.Mathlib.Omega.{arith}
-use borrow.Author.Tests.{not-true, not-false}
 use lib.ListN.{length, set, length-set}
-use Rattle.table.specs.Table.{nodeAt, countsOf, in-order?}
+use Rattle.table.specs.Table.{nodeAt, countsOf, InOrder}
+use Rattle.table.specs.Owners.{ownersOf}
 use Rattle.table.specs.Plan.{movesIn}
 use Rattle.table.proofs.Order.{in-order-iff}
 use Rattle.table.proofs.Written.{written-length}
-use Rattle.calls.proofs.Changing.{release-disordered, release-by-nobody, release-by-holder}
+use Rattle.calls.specs.Changes.{ReleasePlannable, ReleasePlanned}
+use Rattle.calls.proofs.Changing.{release-by-nobody, release-by-holder, of-looked, of-table}
 use Rattle.calls.proofs.Changed.{release-plannable, release-tenants, release-value}
 use borrow.Author.Needs.{needs}
 use Rattle.calls.proofs.change.give_up.Statement.{statement}
 use Rattle.calls.proofs.change.give_up.Tie as tie
 
-survey-requires : tie.Need-survey-requires
-survey-requires c κs = search needs
-
-refused-requires : tie.Need-refused-requires
-refused-requires c κs = search needs
-
-same-length : tie.Need-same-length
-same-length c = search needs
-
 above-zero : (n : ℕ) → ¬ (n ≡ 0) → 0 < n
 above-zero n ne = omega arith
 
-returns : tie.Need-returns
-returns c =
-    let start = c .before .before .before .before .before .before .before in
-    let T = start .args .table .now in
-    let found = c .before .before .before .survey .ensures in
-    (c .refused .ensures .0 T ∙ release-disordered (start .args .height) T (start .args .tenant) (sym (found .in-order) ∙ not-true _ (c .before .if1 .taken)), c .refused .ensures .1)
+-- ---- what is known where the tenant holds a block
+
+abbrev started : tie.Else1 → tie.Start
+started x = x .before .before .before
+
+order : (x : tie.Else1) → InOrder (started x .args .height) (started x .args .table .now)
+order x = in-order-iff (started x .args .height) (started x .args .table .now) (started x .pre .0 .height) .0 (started x .pre .1 .in-order)
+
+holds : (x : tie.Else1) → 0 < nodeAt (started x .args .table .now) (started x .args .tenant)
+holds x = above-zero _ (x .if1 .left)
+
+plannable : (x : tie.Else1) → ReleasePlannable (started x .args .height) (countsOf (started x .args .height) (started x .args .table .now)) (nodeAt (started x .args .table .now) (started x .args .tenant))
+    (ownersOf 8192 (started x .args .table .now))
+plannable x =
+    let start = started x in
+    release-plannable (start .args .height) (start .args .table .now) (start .pre .0 .height) (start .pre .0 .entries) (order x) (start .args .tenant) (start .pre .0 .tenant) (holds x)
+
+planned : (y : tie.After-plan-release) → ReleasePlanned (started (y .before) .args .height) (countsOf (started (y .before) .args .height) (started (y .before) .args .table .now))
+    (nodeAt (started (y .before) .args .table .now) (started (y .before) .args .tenant)) (ownersOf 8192 (started (y .before) .args .table .now)) (y .plan-release .result)
+planned y =
+    let start = started (y .before) in
+    of-table (λ cs o. ReleasePlanned (start .args .height) cs (nodeAt (start .args .table .now) (start .args .tenant)) o (y .plan-release .result)) (start .pre .1) (y .plan-release .ensures)
+
+-- ---- the needs
 
 mul-node : tie.Need-mul-node
 mul-node c = search needs
@@ -41,34 +50,20 @@ mul-node c = search needs
 slice-read-node : tie.Need-slice-read-node
 slice-read-node c = search needs
 
-refused-requires-2 : tie.Need-refused-requires-2
-refused-requires-2 c κs = search needs
+refused-requires : tie.Need-refused-requires
+refused-requires c κs = search needs
 
-same-length-2 : tie.Need-same-length-2
-same-length-2 c = search needs
-
-returns-2 : tie.Need-returns-2
-returns-2 c =
-    let start = c .before .before .before .before .before .before .before .before .before in
-    let T = start .args .table .now in
-    let found = c .before .before .before .before .before .survey .ensures in (
-      c .refused2 .ensures .0 T
-          ∙ release-by-nobody (start .args .height) T (start .args .tenant) (sym (found .in-order) ∙ not-false _ (c .before .before .before .if1 .left)) (c .before .if2 .taken),
-      c .refused2 .ensures .1,
-    )
+returns : tie.Need-returns
+returns c =
+    let start = c .before .before .before .before in
+    let a = start .args in
+    let T = a .table .now in
+    (c .refused .ensures .0 T ∙ release-by-nobody (a .height) T (a .tenant) (start .pre .1 .in-order) (c .before .if1 .taken), c .refused .ensures .1)
 
 plan-release-requires : tie.Need-plan-release-requires
 plan-release-requires c κs =
-    let start = c .before .before .before .before .before .before .before .before .before .before in
-    let h = start .args .height in
-    let T = start .args .table .now in
-    let t = start .args .tenant in
-    let found = c .before .before .before .before .before .before .survey .ensures in
-    let seen = not-false _ (c .before .before .before .before .if1 .left) in
-    let order = in-order-iff h T (start .pre .height) .0 (sym (found .in-order) ∙ seen) in
-    let holds : 0 < nodeAt T t = above-zero _ (c .before .before .if2 .left) in
-    rw (found .counts seen, found .owners seen)
-    (release-plannable h T (start .pre .height) (start .pre .entries) order t (start .pre .tenant) holds)
+    let start = started c in
+    of-looked (λ cs o. ReleasePlannable (start .args .height) cs (nodeAt (start .args .table .now) (start .args .tenant)) o) (start .pre .1) (plannable c)
 
 mul-table : tie.Need-mul-table
 mul-table c = search needs
@@ -78,59 +73,44 @@ slice-write-table c = search needs
 
 carry-out-requires : tie.Need-carry-out-requires
 carry-out-requires c κs =
-    let start = c .before .before .before .before .before .before .before .before .before .before .before .before .before in
+    let y = c .before .before in
+    let x = y .before in
+    let start = started x in
+    release-tenants (start .args .height) (start .args .table .now) (start .pre .0 .height) (start .pre .0 .entries) (order x) (start .args .tenant) (start .pre .0 .tenant) (holds x)
+    (y .plan-release .result) (planned y)
+
+same-length : tie.Need-same-length
+same-length c =
+    let y = c .before .before .before .before .before in
+    let a = started (y .before) .args in
+    ap length (c .before .before .carry-out .ensures) ∙ written-length (set (a .table .now) (a .tenant) 0) (movesIn (y .plan-release .result .plan)) ∙ length-set (a .table .now) (a .tenant) 0
+
+returns-2 : tie.Need-returns-2
+returns-2 c =
+    let y = c .before .before .before .before .before in
+    let x = y .before in
+    let start = started x in
     let h = start .args .height in
     let T = start .args .table .now in
     let t = start .args .tenant in
-    let found = c .before .before .before .before .before .before .before .before .before .survey .ensures in
-    let seen = not-false _ (c .before .before .before .before .before .before .before .if1 .left) in
-    let order = in-order-iff h T (start .pre .height) .0 (sym (found .in-order) ∙ seen) in
-    let holds : 0 < nodeAt T t = above-zero _ (c .before .before .before .before .before .if2 .left) in
-    let planned = rw (found .counts seen, found .owners seen) at (c .before .before .plan-release .ensures) in
-    release-tenants h T (start .pre .height) (start .pre .entries) order t (start .pre .tenant) holds (c .before .before .plan-release .result) planned
-
-same-length-3 : tie.Need-same-length-3
-same-length-3 c =
-    let start = c .before .before .before .before .before .before .before .before .before .before .before .before .before .before .before .before in
-    let T = start .args .table .now in
-    let t = start .args .tenant in
-    ap length (c .before .before .carry-out .ensures) ∙ written-length (set T t 0) (movesIn (c .before .before .before .before .before .plan-release .result .plan)) ∙ length-set T t 0
-
-returns-3 : tie.Need-returns-3
-returns-3 c =
-    let start = c .before .before .before .before .before .before .before .before .before .before .before .before .before .before .before .before in
-    let h = start .args .height in
-    let T = start .args .table .now in
-    let t = start .args .tenant in
-    let found = c .before .before .before .before .before .before .before .before .before .before .before .before .survey .ensures in
-    let seen = not-false _ (c .before .before .before .before .before .before .before .before .before .before .if1 .left) in
-    let order = in-order-iff h T (start .pre .height) .0 (sym (found .in-order) ∙ seen) in
-    let holds : 0 < nodeAt T t = above-zero _ (c .before .before .before .before .before .before .before .before .if2 .left) in
-    let r = c .before .before .before .before .before .plan-release .result in
-    let planned = rw (found .counts seen, found .owners seen) at (c .before .before .before .before .before .plan-release .ensures) in
-    let carried = c .before .before .carry-out .ensures in (
-      ap (λ (l : List ℕ). record { answer = 0; node = nodeAt T t; moves = movesIn (r .plan); table = l }) carried
-          ∙ release-value h T (start .pre .height) (start .pre .entries) order t (start .pre .tenant) holds r planned
-          ∙ release-by-holder h T t (sym (found .in-order) ∙ seen) (c .before .before .before .before .before .before .before .before .if2 .left),
-      rw (planned .count) (release-plannable h T (start .pre .height) (start .pre .entries) order t (start .pre .tenant) holds .plannable .few),
+    let r = y .plan-release .result in (
+      ap (λ (l : List ℕ). record { answer = 0; node = nodeAt T t; moves = movesIn (r .plan); table = l }) (c .before .before .carry-out .ensures)
+          ∙ release-value h T (start .pre .0 .height) (start .pre .0 .entries) (order x) t (start .pre .0 .tenant) (holds x) r (planned y)
+          ∙ release-by-holder h T t (start .pre .1 .in-order) (x .if1 .left),
+      rw (planned y .count) (plannable x .plannable .few),
     )
 
 pub give-up-spec : {M : Type 1} → statement M
 give-up-spec =
     tie.close
     (tie.spec
-    survey-requires
-    refused-requires
-    same-length
-    returns
     mul-node
     slice-read-node
-    refused-requires-2
-    same-length-2
-    returns-2
+    refused-requires
+    returns
     plan-release-requires
     mul-table
     slice-write-table
     carry-out-requires
-    same-length-3
-    returns-3)
+    same-length
+    returns-2)

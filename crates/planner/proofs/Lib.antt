@@ -1,0 +1,5 @@
+pub mod ByValue
+pub mod Front
+pub mod OwnList
+pub mod Performing
+pub mod Walk

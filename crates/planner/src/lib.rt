@@ -1,0 +1,87 @@
+// The reserve's calls over a lent table and a lent list of moves.
+ghost use mathlib.Core.Path.{_≡_};
+ghost use mathlib.Core.List.{_++_};
+ghost use Prim.Native.Nat.{_≤_, _<_};
+ghost use lib.ListN.{length, getD, drop};
+ghost use Rattle.table.specs.Plan.{movesIn};
+ghost use Rattle.calls.specs.Accepted.{nobody};
+ghost use Rattle.calls.specs.Step.{step};
+ghost use Rattle.calls.specs.Value.{callOf, valueOf};
+ghost use Rattle.planner.specs.Performed.{Performed};
+use calls::Answer;
+use calls::Call;
+use calls::Called;
+use table::Move;
+use table::plan::Plan;
+
+// What a call reports: its answer, and how many moves stand in the list.
+pub struct Report {
+    pub answer: Answer,
+    pub moves: usize,
+}
+
+// Runs a grant or a release, and puts its moves at the front of the lent list.
+pub fn perform(height: u16, table: &mut [u16], moves: &mut [Move], call: Call) -> Report
+    ensures { λ r. ⌜ Performed height call (now (table .entry)) (now (moves .entry)) r (now (table .exit)) (now (moves .exit)) ⌝ }
+{
+    let called = calls::run(height, table, moves.len(), call);
+    let plan = called.plan;
+    fill(plan, moves);
+    Report {
+        answer: called.answer,
+        moves: plan.n,
+    }
+}
+
+// Runs a call on a list of so many entries, and hands its moves back by value: for callers that lend no list.
+pub fn perform_by_value(height: u16, table: &mut [u16], entries: usize, call: Call) -> Called
+    ensures value { λ r. ⌜ valueOf r (now (table .exit)) ≡ step height (now (table .entry)) (callOf call entries) ⌝ }
+    ensures few { λ r. ⌜ r .plan .n ≤ 4 ⌝ }
+{
+    if entries < 4 {
+        return calls::run(height, table, entries, call);
+    }
+    perform_on_four(height, table, call)
+}
+
+// Runs a call on a list of its own, of four entries, and hands its moves back by value.
+fn perform_on_four(height: u16, table: &mut [u16], call: Call) -> Called
+    ensures { λ r. ⌜ (valueOf r (now (table .exit)) ≡ step height (now (table .entry)) (callOf call 4)) × (r .plan .n ≤ 4) ⌝ }
+{
+    let unused = Move {
+        tenant: 0,
+        from: 0,
+        to: 0,
+    };
+    let mut list = [unused; 4];
+    let report = perform(height, table, &mut list, call);
+    Called {
+        answer: report.answer,
+        plan: Plan {
+            n: report.moves,
+            moves: list,
+        },
+    }
+}
+
+// Puts the moves of a plan at the front of the list, and leaves the entries after them.
+fn fill(plan: Plan, moves: &mut [Move])
+    requires { ⌜ (plan .n ≤ 4) × (plan .n ≤ length (now moves)) ⌝ }
+    ensures { λ _. ⌜ now (moves .exit) ≡ movesIn plan ++ drop (plan .n) (now (moves .entry)) ⌝ }
+{
+    let n = plan.n;
+    let mut i = 0;
+    while i < n {
+        moves[i] = move_at(plan, i);
+        i += 1;
+    }
+}
+
+// A move of a plan.
+fn move_at(plan: Plan, i: usize) -> Move
+    requires { ⌜ i < 4 ⌝ }
+    ensures { λ r. ⌜ r ≡ getD (plan .moves) i nobody ⌝ }
+{
+    let moves = plan.moves;
+    moves[i]
+}
