@@ -3,10 +3,8 @@ pub mod Call
 pub mod Step
 pub mod Value
 pub mod Accepted
-
 -- histories, and what holds after any two
 pub mod History
 pub mod Demand
-
 -- what the inner functions ask and give
 pub mod Changes

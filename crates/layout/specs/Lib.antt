@@ -4,7 +4,6 @@ pub mod Set
 pub mod Change
 pub mod Leaving
 pub mod Starred
-
 -- how a program keeps counts and layouts
 pub mod Counts
 pub mod Runs

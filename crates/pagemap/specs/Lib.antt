@@ -2,6 +2,5 @@
 pub mod Map
 pub mod Draw
 pub mod Count
-
 -- how the program draws: a flag for each page
 pub mod Flags

@@ -2,6 +2,5 @@
 pub mod Node
 pub mod Held
 pub mod Pages
-
 -- the same terms in other coordinates, for proofs
 pub mod Block
