@@ -1,7 +1,10 @@
+-- the calls, what each answers and leaves, and what an accepted one does
 pub mod Call
 pub mod Step
+pub mod Value
+pub mod Accepted
+-- histories, and what holds after any two
 pub mod History
 pub mod Demand
-pub mod Accepted
+-- what the inner functions ask and give
 pub mod Changes
-pub mod Value

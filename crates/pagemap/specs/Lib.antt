@@ -1,4 +1,6 @@
+-- the map, drawing it, and its count
 pub mod Map
 pub mod Draw
 pub mod Count
+-- how the program draws: a flag for each page
 pub mod Flags

@@ -1,4 +1,6 @@
+-- document 01's terms
 pub mod Node
 pub mod Held
-pub mod Block
 pub mod Pages
+-- the same terms in other coordinates, for proofs
+pub mod Block
