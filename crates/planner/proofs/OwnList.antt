@@ -30,6 +30,7 @@ use Rattle.table.proofs.Move as Mv
 use Rattle.table.proofs.Move.Laws as Mv′
 use Rattle.table.proofs.plan.Plan as P
 
+-- an array of four moves, and its type in MIR
 abbrev pub Four : RattleType
 Four = Array Mv.the-row 4
 
@@ -41,6 +42,7 @@ abbrev pub valueOf : List Move → Val
 valueOf ms = arrayVal (map (LL.val Mv.the-type Mv′.the-laws) ms)
 
 module _ {M : Type 1} (𝓤 : URA M) (H : Heap 𝓤) (A : Atoms 𝓤) (W : Given 𝓤 H A) (l : ℕ) where
+  -- the local's one value is four moves side by side, as a slice has them
   pub lent-out : (ms : List Move) (v : Val) → ent 𝓤 (sep 𝓤 (H .at fullShare array l 0 v) (sem 𝓤 H A (Four .own ms (v ∷ [])))) (sem 𝓤 H A (cells (mem Mv.the-row) ms l 0))
   unfolding partOf
   lent-out ms v =
@@ -49,6 +51,7 @@ module _ {M : Type 1} (𝓤 : URA M) (H : Heap 𝓤) (A : Atoms 𝓤) (W : Given
       use1 W (‵ (arr-parts (shares Mv.the-row) 4 .part fullShare ms l 0)) (array-apart 𝓤 H A W Mv.the-row fullShare tt 4 ms l 0) $ fsplit ! $ drop ! $
       use1 W (‵ (cells (mem Mv.the-row) ms l 0)) (whole-in 𝓤 H A W Mv.the-row ms l 0) $ done !
 
+  -- and four moves side by side are one value again
   pub taken-back : (ms : List Move) → ent 𝓤 (sem 𝓤 H A (Arr (mem Mv.the-row) 4 .lies ms l 0)) (guard 𝓤 (Is Four ms (valueOf ms ∷ [])) (H .at fullShare array l 0 (valueOf ms)))
   unfolding partOf
   taken-back ms =
