@@ -3,6 +3,11 @@
 use oracle::subject::{Oracle, Subject};
 use same::door::{self, Counted, Outcome};
 
+// Not all of them are timed.
+#[allow(dead_code)]
+#[path = "../../tests/door/compare/src/functions.rs"]
+mod functions;
+
 /// A planner that is timed.
 pub trait Contestant {
     fn open(height: u16, table: &mut [u8]) -> u16;
@@ -15,53 +20,48 @@ pub trait Contestant {
 /// The proved library, through its archive.
 pub struct Library;
 
-extern "C" {
-    fn reserve_open(height: u16, table: *mut u8, table_length: usize) -> u16;
-    fn reserve_grant_level(
-        height: u16,
-        table: *mut u8,
-        table_length: usize,
-        moves: *mut u8,
-        moves_length: usize,
-        tenant: u16,
-        level: u16,
-    ) -> Outcome;
-    fn reserve_release(
-        height: u16,
-        table: *mut u8,
-        table_length: usize,
-        moves: *mut u8,
-        moves_length: usize,
-        tenant: u16,
-    ) -> Outcome;
-    fn reserve_draw(height: u16, table: *const u8, table_length: usize, map: *mut u8, map_length: usize) -> u16;
-    fn reserve_count(map: *const u8, map_length: usize) -> Counted;
+impl Library {
+    fn outcome(outcome: functions::Outcome) -> Outcome {
+        Outcome {
+            answer: outcome.answer,
+            node: outcome.node,
+            moves: outcome.moves,
+        }
+    }
 }
 
 // The functions are lent the bytes that each pointer and length name, for as long as the call lasts.
 impl Contestant for Library {
     fn open(height: u16, table: &mut [u8]) -> u16 {
-        unsafe { reserve_open(height, table.as_mut_ptr(), table.len()) }
+        unsafe { functions::reserve_open(height, table.as_mut_ptr(), table.len()) }
     }
 
     fn grant(height: u16, table: &mut [u8], moves: &mut [u8], tenant: u16, level: u16) -> Outcome {
         let (table, table_length) = (table.as_mut_ptr(), table.len());
         let (moves, moves_length) = (moves.as_mut_ptr(), moves.len());
-        unsafe { reserve_grant_level(height, table, table_length, moves, moves_length, tenant, level) }
+        Library::outcome(unsafe {
+            functions::reserve_grant_level(height, table, table_length, moves, moves_length, tenant, level)
+        })
     }
 
     fn release(height: u16, table: &mut [u8], moves: &mut [u8], tenant: u16) -> Outcome {
         let (table, table_length) = (table.as_mut_ptr(), table.len());
         let (moves, moves_length) = (moves.as_mut_ptr(), moves.len());
-        unsafe { reserve_release(height, table, table_length, moves, moves_length, tenant) }
+        Library::outcome(unsafe {
+            functions::reserve_release(height, table, table_length, moves, moves_length, tenant)
+        })
     }
 
     fn draw(height: u16, table: &[u8], map: &mut [u8]) -> u16 {
-        unsafe { reserve_draw(height, table.as_ptr(), table.len(), map.as_mut_ptr(), map.len()) }
+        unsafe { functions::reserve_draw(height, table.as_ptr(), table.len(), map.as_mut_ptr(), map.len()) }
     }
 
     fn count(map: &[u8]) -> Counted {
-        unsafe { reserve_count(map.as_ptr(), map.len()) }
+        let counted = unsafe { functions::reserve_count(map.as_ptr(), map.len()) };
+        Counted {
+            answer: counted.answer,
+            count: counted.count,
+        }
     }
 }
 

@@ -1,74 +1,10 @@
-//! The functions of include/reserve.h, and the planner behind them as a subject of the comparison.
+//! The planner behind the C door as a subject of the comparison.
 
 use oracle::journal::{Reading, Record};
 use oracle::subject::{Count, Reach, Reply, Subject};
 
+use crate::functions::*;
 use crate::listing;
-
-#[repr(C)]
-struct Outcome {
-    answer: u16,
-    node: u16,
-    moves: u16,
-}
-
-#[repr(C)]
-struct Read {
-    answer: u16,
-    kind: u16,
-    who: u16,
-    size: u16,
-    offset: usize,
-}
-
-#[repr(C)]
-struct Written {
-    answer: u16,
-    length: usize,
-}
-
-#[repr(C)]
-struct Counted {
-    answer: u16,
-    count: u16,
-}
-
-extern "C" {
-    fn reserve_open(height: u16, table: *mut u8, table_length: usize) -> u16;
-    fn reserve_grant_level(
-        height: u16,
-        table: *mut u8,
-        table_length: usize,
-        moves: *mut u8,
-        moves_length: usize,
-        tenant: u16,
-        level: u16,
-    ) -> Outcome;
-    fn reserve_grant_pages(
-        height: u16,
-        table: *mut u8,
-        table_length: usize,
-        moves: *mut u8,
-        moves_length: usize,
-        tenant: u16,
-        pages: u16,
-    ) -> Outcome;
-    fn reserve_release(
-        height: u16,
-        table: *mut u8,
-        table_length: usize,
-        moves: *mut u8,
-        moves_length: usize,
-        tenant: u16,
-    ) -> Outcome;
-    fn reserve_draw(height: u16, table: *const u8, table_length: usize, map: *mut u8, map_length: usize) -> u16;
-    fn reserve_count(map: *const u8, map_length: usize) -> Counted;
-    fn reserve_read(journal: *const u8, journal_length: usize, offset: usize) -> Read;
-    fn reserve_write_open(height: u8, out: *mut u8, out_length: usize) -> Written;
-    fn reserve_write_grant_level(tenant: u16, level: u8, out: *mut u8, out_length: usize) -> Written;
-    fn reserve_write_grant_pages(tenant: u16, pages: u16, out: *mut u8, out_length: usize) -> Written;
-    fn reserve_write_release(tenant: u16, out: *mut u8, out_length: usize) -> Written;
-}
 
 /// A number that [`Subject::reach`] lets through.
 fn narrow(number: u32) -> u16 {

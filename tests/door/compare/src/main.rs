@@ -1,6 +1,7 @@
 //! The planner behind the C door, compared with the second planner: `door [SEED [TIMES]]`.
 
 mod door;
+mod functions;
 mod listing;
 
 use std::env;

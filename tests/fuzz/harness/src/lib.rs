@@ -4,6 +4,8 @@ mod behaviour;
 mod bytes;
 #[path = "../../../door/compare/src/door.rs"]
 mod door;
+#[path = "../../../door/compare/src/functions.rs"]
+mod functions;
 #[path = "../../../door/compare/src/listing.rs"]
 mod listing;
 mod programme;
