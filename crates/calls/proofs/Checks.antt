@@ -9,9 +9,8 @@ use lib.Dec.{ltb}
 use lib.ListN.{length}
 use Rattle.table.specs.Table.{in-order?}
 use Rattle.calls.specs.Call.{Call, grant-level, grant-pages, release, tenantOf}
-use Rattle.calls.specs.Step.{Check, check, first, list-checks, validity, holdings, checks, unless, accepted, step}
+use Rattle.calls.specs.Step.{Check, check, first, list-checks, size-checks, validity, holdings, checks, unless, accepted, step}
 use Rattle.calls.specs.Demand.{Asks, by-level, by-pages}
-use Rattle.calls.specs.Changes.{size-checks}
 use Rattle.calls.specs.Value.{callOf}
 use Rattle.calls.specs.declared.Call.{Call as Arguments}
 use Rattle.calls.specs.declared.Call.the-variants.{GrantLevel, GrantPages, Release}

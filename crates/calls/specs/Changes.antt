@@ -3,7 +3,7 @@ use mathlib.Core.Path.{_≡_}
 use mathlib.Core.Bool.{true, not, cond}
 use mathlib.Core.List.{List, [], _∷_}
 use Prim.Native.Nat.{ℕ, _^_, _≤_, _<_}
-use lib.Dec.{eqb, ltb}
+use lib.Dec.{eqb}
 use lib.ListN.{length, getD}
 use Rattle.tree.specs.Node.{level}
 use Rattle.layout.specs.Layout.{pages}
@@ -15,19 +15,13 @@ use Rattle.table.specs.Owners.{ownersOf}
 use Rattle.table.specs.Plan.{Plannable, AllPlanned}
 use Rattle.table.specs.declared.plan.Planned.{Planned}
 use Rattle.calls.specs.Call.{Call, grant-level, grant-pages, release, levelFor}
-use Rattle.calls.specs.Step.{Outcome, Check, check, first, grant-holdings, granted, released, unless}
+use Rattle.calls.specs.Step.{Outcome, check, first, grant-holdings, granted, released, unless}
 
 -- the level of the block that a call asks for; 13, which no tree has, for a release
 abbrev pub wantedBy : Call → ℕ
 wantedBy (grant-level t l m) = l
 wantedBy (grant-pages t p m) = levelFor p
 wantedBy (release t m) = 13
-
--- 5 and 6: what a call asks for
-abbrev pub size-checks : ℕ → Call → List Check
-size-checks h (grant-level t l m) = check 5 (ltb h l) ∷ []
-size-checks h (grant-pages t p m) = check 6 (ltb (2 ^ h) p) ∷ []
-size-checks h (release t m) = []
 
 -- the arguments have passed 1, 2 and 4
 pub record Ready (h : ℕ) (T : List ℕ) (t : ℕ) : Type 0 where

@@ -40,19 +40,28 @@ first (c ∷ cs) = cond (c .applies) (c .number) (first cs)
 
 -- ---- the conditions, in order
 
--- 1 and 2
+-- 1 and 2, of a table with n entries
+abbrev pub length-checks : ℕ → ℕ → List Check
+length-checks h n = check 1 (ltb 12 h) ∷ check 2 (not (eqb n 4096)) ∷ []
+
 abbrev pub reserve-checks : ℕ → List ℕ → List Check
-reserve-checks h T = check 1 (ltb 12 h) ∷ check 2 (not (eqb (length T) 4096)) ∷ []
+reserve-checks h T = length-checks h (length T)
 
 -- 3 and 4
 abbrev pub list-checks : ℕ → ℕ → List Check
 list-checks t m = check 3 (ltb m 4) ∷ check 4 (ltb 4095 t) ∷ []
 
+-- 5 and 6
+abbrev pub size-checks : ℕ → Call → List Check
+size-checks h (grant-level t l m) = check 5 (ltb h l) ∷ []
+size-checks h (grant-pages t p m) = check 6 (ltb (2 ^ h) p) ∷ []
+size-checks h (release t m) = []
+
 -- 3 to 6: those by which a request or a release is not valid
 abbrev pub validity : ℕ → Call → List Check
-validity h (grant-level t l m) = list-checks t m ++ check 5 (ltb h l) ∷ []
-validity h (grant-pages t p m) = list-checks t m ++ check 6 (ltb (2 ^ h) p) ∷ []
-validity h (release t m) = list-checks t m
+validity h (grant-level t l m) = list-checks t m ++ size-checks h (grant-level t l m)
+validity h (grant-pages t p m) = list-checks t m ++ size-checks h (grant-pages t p m)
+validity h (release t m) = list-checks t m ++ size-checks h (release t m)
 
 -- 8 and 10
 abbrev pub grant-holdings : ℕ → List ℕ → ℕ → ℕ → List Check

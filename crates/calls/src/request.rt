@@ -1,12 +1,9 @@
 // What a call's arguments ask for, and the refusals that they alone decide.
 ghost use mathlib.Core.Path.{_≡_};
-ghost use mathlib.Core.Bool.{not};
-ghost use mathlib.Core.List.{[], _∷_, _++_};
+ghost use mathlib.Core.List.{_++_};
 ghost use Prim.Native.Nat.{_≤_};
-ghost use lib.Dec.{eqb, ltb};
 ghost use Rattle.calls.specs.Call.{levelFor};
-ghost use Rattle.calls.specs.Step.{first, check, list-checks, validity};
-ghost use Rattle.calls.specs.Changes.{size-checks};
+ghost use Rattle.calls.specs.Step.{first, length-checks, list-checks, size-checks, validity};
 ghost use Rattle.calls.specs.Value.{callOf};
 use crate::Call;
 
@@ -22,7 +19,7 @@ pub fn level_for(pages: u16) -> u16
 
 // The number of the first of refusals 1 and 2 that applies, or 0.
 pub fn reserve_refusal(height: u16, length: usize) -> u16
-    ensures { λ r. ⌜ r ≡ first (check 1 (ltb 12 height) ∷ check 2 (not (eqb length 4096)) ∷ []) ⌝ }
+    ensures { λ r. ⌜ r ≡ first (length-checks height length) ⌝ }
 {
     if 12 < height {
         return 1;
@@ -48,7 +45,7 @@ pub fn list_refusal(entries: usize, tenant: u16) -> u16
 
 // The number of the first of refusals 1 to 4 that applies, or 0.
 pub fn refusal(height: u16, length: usize, entries: usize, tenant: u16) -> u16
-    ensures { λ r. ⌜ r ≡ first ((check 1 (ltb 12 height) ∷ check 2 (not (eqb length 4096)) ∷ []) ++ list-checks tenant entries) ⌝ }
+    ensures { λ r. ⌜ r ≡ first (length-checks height length ++ list-checks tenant entries) ⌝ }
 {
     let number = reserve_refusal(height, length);
     if number != 0 {
@@ -73,7 +70,7 @@ fn size_refusal(height: u16, call: Call) -> u16
 
 // The number of the first of refusals 1 to 6 that applies to a call, or 0.
 pub fn call_refusal(height: u16, length: usize, entries: usize, call: Call) -> u16
-    ensures { λ r. ⌜ r ≡ first ((check 1 (ltb 12 height) ∷ check 2 (not (eqb length 4096)) ∷ []) ++ validity height (callOf call entries)) ⌝ }
+    ensures { λ r. ⌜ r ≡ first (length-checks height length ++ validity height (callOf call entries)) ⌝ }
 {
     let number = refusal(height, length, entries, call.tenant());
     if number != 0 {

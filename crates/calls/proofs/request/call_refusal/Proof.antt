@@ -1,14 +1,13 @@
 -- `calls::request::call_refusal` meets its contract: what 1 to 4 decide, and else what 5 and 6 do.
 use mathlib.Core.Path.{sym, _∙_}
 use mathlib.Core.Bool.{not}
-use mathlib.Core.List.{List, _∷_}
+use mathlib.Core.List.{List, _∷_, _++_}
 use Prim.Native.Nat.{ℕ}
 use native.Mathlib.Omega.{arith}
 use borrow.Author.Needs.{needs}
 use borrow.Author.Tests.{ltb-false}
 use lib.Dec.{eqb, ltb}
-use Rattle.calls.specs.Step.{Check, check, list-checks}
-use Rattle.calls.specs.Changes.{size-checks}
+use Rattle.calls.specs.Step.{Check, check, length-checks, list-checks, size-checks}
 use Rattle.calls.specs.Value.{callOf}
 use Rattle.calls.proofs.Checks.{first-after-none, first-stands, not-applied, validity-parts}
 use Rattle.calls.proofs.request.call_refusal.Statement.{statement}
@@ -16,7 +15,7 @@ use Rattle.calls.proofs.request.call_refusal.Tie as tie
 
 -- 1 to 4
 abbrev four : ℕ → ℕ → ℕ → ℕ → List Check
-four h n t m = check 1 (ltb 12 h) ∷ check 2 (not (eqb n 4096)) ∷ list-checks t m
+four h n t m = length-checks h n ++ list-checks t m
 
 tenant-requires : tie.Need-tenant-requires
 tenant-requires c κs = search needs

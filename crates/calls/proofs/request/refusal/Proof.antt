@@ -1,18 +1,11 @@
 -- `calls::request::refusal` meets its contract: what 1 and 2 decide, and else what 3 and 4 do.
 use mathlib.Core.Path.{sym, _∙_}
-use mathlib.Core.Bool.{not}
-use mathlib.Core.List.{List, [], _∷_}
-use Prim.Native.Nat.{ℕ}
-use lib.Dec.{eqb, ltb}
-use Rattle.calls.specs.Step.{Check, check, list-checks}
+use Rattle.calls.specs.Step.{length-checks, list-checks}
 use native.Mathlib.Omega.{arith}
 use borrow.Author.Needs.{needs}
 use Rattle.calls.proofs.Checks.{first-after-none, first-stands}
 use Rattle.calls.proofs.request.refusal.Statement.{statement}
 use Rattle.calls.proofs.request.refusal.Tie as tie
-
-abbrev two : ℕ → ℕ → List Check
-two h n = check 1 (ltb 12 h) ∷ check 2 (not (eqb n 4096)) ∷ []
 
 reserve-refusal-requires : tie.Need-reserve-refusal-requires
 reserve-refusal-requires c κs = search needs
@@ -21,7 +14,7 @@ returns : tie.Need-returns
 returns c =
     let asked = c .before .reserve-refusal .ensures in
     let a = c .before .before .args in
-    asked ∙ sym (first-stands (two (a .height) (a .length)) (list-checks (a .tenant) (a .entries)) (λ z. c .if1 .taken (asked ∙ z)))
+    asked ∙ sym (first-stands (length-checks (a .height) (a .length)) (list-checks (a .tenant) (a .entries)) (λ z. c .if1 .taken (asked ∙ z)))
 
 list-refusal-requires : tie.Need-list-refusal-requires
 list-refusal-requires c κs = search needs
@@ -30,7 +23,7 @@ returns-2 : tie.Need-returns-2
 returns-2 c =
     let a = c .before .before .before .args in
     c .list-refusal .ensures
-    ∙ sym (first-after-none (two (a .height) (a .length)) (list-checks (a .tenant) (a .entries)) (omega arith, (omega arith, tt))
+    ∙ sym (first-after-none (length-checks (a .height) (a .length)) (list-checks (a .tenant) (a .entries)) (omega arith, (omega arith, tt))
     (sym (c .before .before .reserve-refusal .ensures) ∙ c .before .if1 .left))
 
 pub refusal-spec : {M : Type 1} → statement M
