@@ -51,7 +51,7 @@ kept-of-order h T q e o = record { height = q; entries = e; in-order = o; agrees
         positive n ne = omega arith
 
 -- an accepted call has passed 1, 2 and 7
-sound-if-accepted : (h : ℕ) (T : List ℕ) (c : Call) → step h T c .answer ≡ 0 → Sound h T
+pub sound-if-accepted : (h : ℕ) (T : List ℕ) (c : Call) → step h T c .answer ≡ 0 → Sound h T
 sound-if-accepted h T c e =
     let z : first (checks h T c) ≡ 0 = sym (answer-is-first h T c) ∙ e in
     let table-on = check 7 (not (in-order? h T)) ∷ holdings h T c in

@@ -7,6 +7,7 @@ use native.Mathlib.Omega.{arith}
 use borrow.Author.Tests.{ltb-false, eqb-true, ne-eqb, not-false}
 use lib.Dec.{eqb, ltb}
 use lib.ListN.{length}
+use Rattle.layout.specs.Rows.{no-level}
 use Rattle.table.specs.Table.{in-order?}
 use Rattle.calls.specs.Call.{Call, grant-level, grant-pages, release, tenantOf, levelFor}
 use Rattle.calls.specs.Step.{refused, Check, check, first, reserve-checks, validity, holdings, unless, accepted, step}
@@ -56,10 +57,10 @@ module _ (h : ℕ) (T : List ℕ) (c : Call) (k : ℕ) (asked : k ≡ first (arg
       tenant = valid-tenant h c valid;
     }
 
-    pub in-height : ¬ (wantedBy c ≡ 13) → wantedBy c ≤ h
+    pub in-height : ¬ (wantedBy c ≡ no-level) → wantedBy c ≤ h
     in-height = go c valid
       where
-        go : (c : Call) → first (validity h c) ≡ 0 → ¬ (wantedBy c ≡ 13) → wantedBy c ≤ h
+        go : (c : Call) → first (validity h c) ≡ 0 → ¬ (wantedBy c ≡ no-level) → wantedBy c ≤ h
         go (grant-level t l m) v ne = valid-level h (grant-level t l m) l by-level v
         go (grant-pages t p m) v ne = valid-level h (grant-pages t p m) (wantedBy (grant-pages t p m)) by-pages v
         go (release t m) v ne = absurd (ne refl)
@@ -71,10 +72,10 @@ module _ (h : ℕ) (T : List ℕ) (c : Call) (k : ℕ) (asked : k ≡ first (arg
         go : (c : Call) → first (validity h c) ≡ 0 → changeOn h T (tenantOf c) (wantedBy c) ≡ unless (first (check 7 (not (in-order? h T)) ∷ holdings h T c)) T (accepted h T c)
         go (grant-level t l m) v =
             let low = valid-level h (grant-level t l m) l by-level v in
-            rw (ne-eqb l 13 (λ e. omega (arith, low, height-checked)))
+            rw (ne-eqb l no-level (λ e. omega (arith, low, height-checked)))
         go (grant-pages t p m) v =
             let low = valid-level h (grant-pages t p m) (levelFor p) by-pages v in
-            rw (ne-eqb (levelFor p) 13 (λ e. omega (arith, low, height-checked)))
+            rw (ne-eqb (levelFor p) no-level (λ e. omega (arith, low, height-checked)))
         go (release t m) v = refl
 
 -- the entries lent do not matter for the tenant and what is wanted

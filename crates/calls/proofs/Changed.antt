@@ -15,7 +15,7 @@ use Rattle.tree.specs.Held.{Nodes}
 use Rattle.layout.specs.Layout.{pages}
 use Rattle.layout.specs.Set.{layoutSet}
 use Rattle.layout.specs.Change.{oneMore, oneFewer}
-use Rattle.layout.specs.Rows.{rowsOf}
+use Rattle.layout.specs.Rows.{no-level, rowsOf}
 use Rattle.table.specs.Table.{nodeAt, occupied, countsOf, tenantsAt, InOrder}
 use Rattle.table.specs.Owners.{ownersOf}
 use Rattle.table.specs.Pairing.{newcomer, moved, movesOf, written}
@@ -26,10 +26,12 @@ use Rattle.table.proofs.Used.{tally-le-length}
 use Rattle.table.proofs.Order.{counts-at, in-order-fits}
 use Rattle.table.proofs.Moves.{moves-in-list}
 use Rattle.table.proofs.Written.{written-is-moved}
+use Rattle.table.proofs.PlanOf.{moves-in-plan-of, count-in-plan-of}
 use Rattle.table.proofs.PlanLaws.{Replan, plannable, plan-of-table, stored-owners, grant-replan, release-replan}
 use Rattle.calls.specs.Step.{granted, released}
 use Rattle.calls.specs.Accepted.{nobody}
-use Rattle.calls.specs.Value.{TenantsIn}
+use Rattle.calls.specs.Value.{Gives, TenantsIn}
+use Rattle.calls.specs.declared.Answer.the-variants.{Done}
 use Rattle.calls.specs.Changes.{GrantPlannable, GrantPlanned, ReleasePlannable, ReleasePlanned}
 use Rattle.calls.proofs.Kept.{Kept, level-in-counts}
 use Rattle.calls.proofs.Accepted.{bookOf, kept-of-order}
@@ -50,12 +52,14 @@ count-below h T l q = rw (counts-at h T l q) (tally-le-length _ T)
 tenants-of-plan : {h : ℕ} {cs ds : List ℕ} {gone : ℕ} {T owners : List ℕ} (p : Replan h cs ds gone T owners) (x : ℕ) (r : Planned)
     → AllPlanned h (rowsOf cs) (rowsOf ds) gone x owners r → TenantsIn T (r .plan)
 tenants-of-plan {h} {cs} {ds} {gone} {T} {owners} p x r planned =
-    let q = plan-of-table p x r planned in
+    let moves = movesOf h (layoutSet h ds) T in
+    let q = plan-of-table p x r planned .0 in
+    let count = count-in-plan-of (r .plan) moves q in
     record {
-      few = rw (q .1) (p .few);
+      few = rw count (p .few);
       tenants = λ i i<n.
-          rw (← (getD-take (r .plan .n) (r .plan .moves) i nobody i<n), q .0)
-          (moves-in-list (p .movable) nobody i (rw (q .1) at i<n) .in-table);
+          rw (← (getD-take (r .plan .n) (r .plan .moves) i nobody i<n), moves-in-plan-of (r .plan) moves q)
+          (moves-in-list (p .movable) nobody i (rw count at i<n) .in-table);
     }
 
 module _ (h : ℕ) (T : List ℕ) (h≤12 : h ≤ 12) (entries : length T ≡ 4096) (order : InOrder h T) where
@@ -76,6 +80,9 @@ module _ (h : ℕ) (T : List ℕ) (h≤12 : h ≤ 12) (entries : length T ≡ 40
         grant-replan h T h≤12 order l (ownersOf 8192 T) (stored-owners h T h≤12 order)
         (new-counts-fit h T B kept t l t<4096 nothing l≤h fits) M (omega (arith, few))
 
+    pub grant-few : length (movesOf h (layoutSet h more) T) ≤ 4
+    grant-few = grant-asked .few
+
     pub grant-plannable : GrantPlannable h (countsOf h T) l (ownersOf 8192 T)
     grant-plannable = record {
       below = omega (arith, count-below h T l (omega arith));
@@ -88,14 +95,14 @@ module _ (h : ℕ) (T : List ℕ) (h≤12 : h ≤ 12) (entries : length T ≡ 40
       pub grant-tenants : TenantsIn T (r .plan)
       grant-tenants = tenants-of-plan grant-asked l r planned
 
-      pub grant-value : record { answer = 0; node = r .node; moves = movesIn (r .plan); table = set (written T (movesIn (r .plan))) t (r .node) }
-          ≡ granted h T (layoutSet h more) t l
-      grant-value =
+      pub grant-gives : {T′ : List ℕ} → T′ ≡ written T (movesIn (r .plan))
+          → Gives (granted h T (layoutSet h more) t l) (record { answer = Done (r .node); plan = r .plan }) (set T′ t (r .node))
+      grant-gives done =
           let p = plan-of-table grant-asked l r planned in
-          let node : r .node ≡ newcomer h (occupied T) (layoutSet h more) l = p .2 ∙ rw (le-leb l h l≤h) in
-          let table : written T (movesIn (r .plan)) ≡ moved h (layoutSet h more) T =
-          ap (written T) (p .0) ∙ written-is-moved (grant-asked .movable) in
-          λ i. record { answer = 0; node = node i; moves = p .0 i; table = set (table i) t (node i) }
+          let node : r .node ≡ newcomer h (occupied T) (layoutSet h more) l = p .1 ∙ rw (le-leb l h l≤h) in
+          let moves = moves-in-plan-of (r .plan) (movesOf h (layoutSet h more) T) (p .0) in
+          let table = done ∙ ap (written T) moves ∙ written-is-moved (grant-asked .movable) in
+          record { answer = ap Done node; plan = p .0; table = λ i. set (table i) t (node i) }
 
   -- ---- a release
 
@@ -113,6 +120,9 @@ module _ (h : ℕ) (T : List ℕ) (h≤12 : h ≤ 12) (entries : length T ≡ 40
         release-replan h T h≤12 order x t (ownersOf 8192 T) fewer (stored-owners h T h≤12 order) before
         (fewer-counts-fit h T B kept t t<4096 holds) (rw entries t<4096) M few
 
+    pub release-few : length (movesOf h (layoutSet h fewer) (set T t 0)) ≤ 4
+    release-few = release-asked .few
+
     pub release-plannable : ReleasePlannable h (countsOf h T) (nodeAt T t) (ownersOf 8192 T)
     release-plannable = record {
       old-fits = pages-below h (pages (countsOf h T)) h≤12 (in-order-fits h T h≤12 order);
@@ -122,12 +132,11 @@ module _ (h : ℕ) (T : List ℕ) (h≤12 : h ≤ 12) (entries : length T ≡ 40
 
     module _ (r : Planned) (planned : ReleasePlanned h (countsOf h T) (nodeAt T t) (ownersOf 8192 T) r) where
       pub release-tenants : TenantsIn (set T t 0) (r .plan)
-      release-tenants = tenants-of-plan release-asked 13 r planned
+      release-tenants = tenants-of-plan release-asked no-level r planned
 
-      pub release-value : record { answer = 0; node = nodeAt T t; moves = movesIn (r .plan); table = written (set T t 0) (movesIn (r .plan)) }
-          ≡ released h T (layoutSet h fewer) t
-      release-value =
-          let p = plan-of-table release-asked 13 r planned in
-          let table : written (set T t 0) (movesIn (r .plan)) ≡ moved h (layoutSet h fewer) (set T t 0) =
-          ap (written (set T t 0)) (p .0) ∙ written-is-moved (release-asked .movable) in
-          λ i. record { answer = 0; node = nodeAt T t; moves = p .0 i; table = table i }
+      pub release-gives : {T′ : List ℕ} → T′ ≡ written (set T t 0) (movesIn (r .plan))
+          → Gives (released h T (layoutSet h fewer) t) (record { answer = Done (nodeAt T t); plan = r .plan }) T′
+      release-gives done =
+          let p = plan-of-table release-asked no-level r planned in
+          let moves = moves-in-plan-of (r .plan) (movesOf h (layoutSet h fewer) (set T t 0)) (p .0) in
+          record { answer = refl; plan = p .0; table = done ∙ ap (written (set T t 0)) moves ∙ written-is-moved (release-asked .movable) }

@@ -7,6 +7,7 @@ use native.Mathlib.Decide.{ℕ-discrete}
 use borrow.Author.Tests.{lt-ltb, le-ltb, eq-eqb, ne-eqb}
 use Rattle.tree.specs.Node.{level}
 use Rattle.layout.specs.Layout.{pages}
+use Rattle.layout.specs.Rows.{no-level}
 use Rattle.layout.specs.Set.{layoutSet}
 use Rattle.layout.specs.Change.{oneMore, oneFewer}
 use Rattle.table.specs.Table.{nodeAt, countsOf, in-order?}
@@ -49,18 +50,18 @@ module _ (h : ℕ) (T : List ℕ) (t : ℕ) where
     release-by-holder p = rw (e, ne-eqb (nodeAt T t) 0 p)
 
   -- by the level wanted
-  pub change-releases : (w : ℕ) → w ≡ 13 → releaseOn h T t ≡ changeOn h T t w
+  pub change-releases : (w : ℕ) → w ≡ no-level → releaseOn h T t ≡ changeOn h T t w
   unfolding changeOn
-  change-releases w e = rw (eq-eqb w 13 e)
+  change-releases w e = rw (eq-eqb w no-level e)
 
-  pub change-grants : (w : ℕ) → ¬ (w ≡ 13) → grantOn h T t w ≡ changeOn h T t w
+  pub change-grants : (w : ℕ) → ¬ (w ≡ no-level) → grantOn h T t w ≡ changeOn h T t w
   unfolding changeOn
-  change-grants w ne = rw (ne-eqb w 13 ne)
+  change-grants w ne = rw (ne-eqb w no-level ne)
 
   pub change-disordered : (w : ℕ) → in-order? h T ≡ false → refused 7 T ≡ changeOn h T t w
-  change-disordered w e = go (ℕ-discrete w 13)
+  change-disordered w e = go (ℕ-discrete w no-level)
     where
-      go : Dec (w ≡ 13) → refused 7 T ≡ changeOn h T t w
+      go : Dec (w ≡ no-level) → refused 7 T ≡ changeOn h T t w
       go (yes p) = release-disordered e ∙ change-releases w p
       go (no ne) = grant-disordered w e ∙ change-grants w ne
 

@@ -12,8 +12,10 @@ pub mod Box
 pub mod Demand
 pub mod Accepted
 pub mod Opening
+pub mod Given
 pub mod Carried
 pub mod Changed
 pub mod Changing
 pub mod Calling
 pub mod Entries
+pub mod Few

@@ -8,7 +8,7 @@ use lib.ListN.{length, getD}
 use Rattle.tree.specs.Node.{level}
 use Rattle.layout.specs.Layout.{pages}
 use Rattle.layout.specs.Change.{oneMore, oneFewer}
-use Rattle.layout.specs.Rows.{rowsOf}
+use Rattle.layout.specs.Rows.{no-level, rowsOf}
 use Rattle.layout.specs.Set.{layoutSet}
 use Rattle.table.specs.Table.{nodeAt, countsOf, in-order?}
 use Rattle.table.specs.Owners.{ownersOf}
@@ -17,11 +17,11 @@ use Rattle.table.specs.declared.plan.Planned.{Planned}
 use Rattle.calls.specs.Call.{Call, grant-level, grant-pages, release, levelFor}
 use Rattle.calls.specs.Step.{Outcome, check, first, grant-holdings, granted, released, unless}
 
--- the level of the block that a call asks for; 13, which no tree has, for a release
+-- the level of the block that a call asks for; none for a release
 abbrev pub wantedBy : Call → ℕ
 wantedBy (grant-level t l m) = l
 wantedBy (grant-pages t p m) = levelFor p
-wantedBy (release t m) = 13
+wantedBy (release t m) = no-level
 
 -- the arguments have passed 1, 2 and 4
 pub record Ready (h : ℕ) (T : List ℕ) (t : ℕ) : Type 0 where
@@ -52,9 +52,9 @@ pub record ReleasePlannable (h : ℕ) (cs : List ℕ) (n : ℕ) (owners : List �
   pub new-fits : pages (oneFewer cs (level h n)) ≤ 4096
   pub plannable : Plannable h (rowsOf cs) (rowsOf (oneFewer cs (level h n))) n owners
 
--- what the planner then gives: the moves; level 13 stands for no newcomer
+-- what the planner then gives: the moves, and no newcomer
 abbrev pub ReleasePlanned : ℕ → List ℕ → ℕ → List ℕ → Planned → Type 0
-ReleasePlanned h cs n owners r = AllPlanned h (rowsOf cs) (rowsOf (oneFewer cs (level h n))) n 13 owners r
+ReleasePlanned h cs n owners r = AllPlanned h (rowsOf cs) (rowsOf (oneFewer cs (level h n))) n no-level owners r
 
 -- a grant at level l whose arguments are valid: 7, 8, 10, or the block
 unfoldable pub grantOn : ℕ → List ℕ → ℕ → ℕ → Outcome
@@ -69,4 +69,4 @@ releaseOn h T t =
 
 -- either, by the level wanted
 unfoldable pub changeOn : ℕ → List ℕ → ℕ → ℕ → Outcome
-changeOn h T t w = cond (eqb w 13) (releaseOn h T t) (grantOn h T t w)
+changeOn h T t w = cond (eqb w no-level) (releaseOn h T t) (grantOn h T t w)

@@ -1,12 +1,13 @@
 -- What the functions' answers stand for: document 01's numbers and values.
+use mathlib.Core.Path.{_≡_}
 use mathlib.Core.List.{List, []}
-use Prim.Native.Nat.{ℕ, _≤_, _<_}
+use Prim.Native.Nat.{ℕ, zero, suc, _≤_, _<_}
 use lib.ListN.{length, getD}
 use Rattle.table.specs.declared.plan.Plan.{Plan}
 use Rattle.calls.specs.Call.{Call, grant-level, grant-pages, release}
 use Rattle.calls.specs.Step.{Outcome}
 use Rattle.calls.specs.Accepted.{nobody}
-use Rattle.table.specs.Plan.{movesIn}
+use Rattle.table.specs.Plan.{movesIn, planOf}
 use Rattle.calls.specs.declared.Answer.{Answer}
 use Rattle.calls.specs.declared.Call.{Call as Arguments}
 use Rattle.calls.specs.declared.Call.the-variants.{GrantLevel, GrantPages, Release}
@@ -28,6 +29,17 @@ numberOf (Refused k) = k
 abbrev pub nodeIn : Answer → ℕ
 nodeIn (Done n) = n
 nodeIn (Refused k) = 0
+
+-- the answer with a number and a node: done where the number is 0, so that no refusal carries 0
+abbrev pub answerOf : ℕ → ℕ → Answer
+answerOf zero node = Done node
+answerOf (suc k) node = Refused (suc k)
+
+-- r, and the table T afterwards, are what the outcome o says, the plan's entries after its moves included
+pub record Gives (o : Outcome) (r : Called) (T : List ℕ) : Type 0 where
+  pub answer : r .answer ≡ answerOf (o .answer) (o .node)
+  pub plan : r .plan ≡ planOf (o .moves)
+  pub table : T ≡ o .table
 
 -- an answer without moves, and the table afterwards
 abbrev pub answered : Answer → List ℕ → Outcome

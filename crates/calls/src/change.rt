@@ -3,7 +3,8 @@ ghost use mathlib.Core.Path.{_≡_};
 ghost use Prim.Native.Nat.{_+_, _^_, _≤_};
 ghost use lib.Dec.{leb};
 ghost use Rattle.layout.specs.Layout.{pages};
-ghost use Rattle.calls.specs.Value.{valueOf};
+ghost use Rattle.layout.specs.Rows.{no-level};
+ghost use Rattle.calls.specs.Value.{Gives};
 ghost use Rattle.calls.specs.Changes.{Ready, Looked, grantOn, releaseOn, changeOn};
 use crate::Answer;
 use crate::Called;
@@ -12,6 +13,11 @@ use crate::planning::plan_grant;
 use crate::planning::plan_release;
 use crate::refused;
 use layout::Counts;
+use layout::NO_LEVEL;
+use refusal::HOLDS;
+use refusal::HOLDS_NONE;
+use refusal::NO_ROOM;
+use refusal::NOT_IN_ORDER;
 
 // Whether the reserve has room for one block more on the level.
 fn has_room(height: u16, counts: Counts, level: u16) -> bool
@@ -24,21 +30,20 @@ fn has_room(height: u16, counts: Counts, level: u16) -> bool
     held + more <= all
 }
 
-// Grants the tenant a block of the level wanted, or gives its block up where that is 13, unless the table refuses it. Both go through this one
+// Grants the tenant a block of the level wanted, or gives its block up where no level is wanted, unless the table refuses it. Both go through this one
 // function, so that the owners stand on the stack once.
 pub fn change(height: u16, table: &mut [u16], tenant: u16, wanted: u16) -> Called
     requires ready { ⌜ Ready height (now table) tenant ⌝ }
-    requires level { ⌜ (¬ (wanted ≡ 13) → wanted ≤ height) ⌝ }
-    ensures value { λ r. ⌜ valueOf r (now (table .exit)) ≡ changeOn height (now (table .entry)) tenant wanted ⌝ }
-    ensures few { λ r. ⌜ r .plan .n ≤ 4 ⌝ }
+    requires level { ⌜ (¬ (wanted ≡ no-level) → wanted ≤ height) ⌝ }
+    ensures { λ r. ⌜ Gives (changeOn height (now (table .entry)) tenant wanted) r (now (table .exit)) ⌝ }
 {
     let mut owners = [0u16; 8192];
     let found = survey::survey(height, table, &mut owners);
     if !found.in_order {
-        return refused(7);
+        return refused(NOT_IN_ORDER);
     }
     let counts = found.counts;
-    if wanted == 13 {
+    if wanted == NO_LEVEL {
         return give_up(height, table, tenant, counts, &owners);
     }
     grant(height, table, tenant, wanted, counts, &owners)
@@ -56,15 +61,14 @@ fn grant(
     requires ready { ⌜ Ready height (now table) tenant ⌝ }
     requires level { ⌜ level ≤ height ⌝ }
     requires looked { ⌜ Looked height (now table) (counts .at) (now owners) ⌝ }
-    ensures value { λ r. ⌜ valueOf r (now (table .exit)) ≡ grantOn height (now (table .entry)) tenant level ⌝ }
-    ensures few { λ r. ⌜ r .plan .n ≤ 4 ⌝ }
+    ensures { λ r. ⌜ Gives (grantOn height (now (table .entry)) tenant level) r (now (table .exit)) ⌝ }
 {
     let t = tenant as usize;
     if table[t] != 0 {
-        return refused(8);
+        return refused(HOLDS);
     }
     if !has_room(height, counts, level) {
-        return refused(10);
+        return refused(NO_ROOM);
     }
     let planned = plan_grant(height, counts, level, owners);
     let node = planned.node;
@@ -87,13 +91,12 @@ fn give_up(
 ) -> Called
     requires ready { ⌜ Ready height (now table) tenant ⌝ }
     requires looked { ⌜ Looked height (now table) (counts .at) (now owners) ⌝ }
-    ensures value { λ r. ⌜ valueOf r (now (table .exit)) ≡ releaseOn height (now (table .entry)) tenant ⌝ }
-    ensures few { λ r. ⌜ r .plan .n ≤ 4 ⌝ }
+    ensures { λ r. ⌜ Gives (releaseOn height (now (table .entry)) tenant) r (now (table .exit)) ⌝ }
 {
     let t = tenant as usize;
     let node = table[t];
     if node == 0 {
-        return refused(9);
+        return refused(HOLDS_NONE);
     }
     let planned = plan_release(height, counts, node, owners);
     let plan = planned.plan;

@@ -1,11 +1,12 @@
-// The calls of the reserve over a lent table: opening, grants by level and by pages, releases.
+// The calls of the reserve over a lent table: opening, and grants by level and by pages and releases, which one function runs.
 ghost use mathlib.Core.Path.{_≡_};
 ghost use mathlib.Core.List.{List};
-ghost use Prim.Native.Nat.{ℕ, _≤_};
-ghost use Rattle.calls.specs.Step.{open-reserve, refused as refusal, step};
-ghost use Rattle.calls.specs.Call.{grant-level, grant-pages, release as release-by, tenantOf};
+ghost use Prim.Native.Nat.{ℕ, _<_};
+ghost use Rattle.calls.specs.Step.{open-reserve, refused as Step·refused, step};
+ghost use Rattle.calls.specs.Call.{tenantOf};
 ghost use Rattle.calls.specs.Changes.{wantedBy};
-ghost use Rattle.calls.specs.Value.{callOf, numberOf, nodeIn, answered, valueOf};
+ghost use Rattle.calls.specs.Value.{callOf, numberOf, nodeIn, answerOf, Gives};
+use layout::NO_LEVEL;
 use table::plan::Plan;
 
 mod carry;
@@ -61,14 +62,14 @@ impl Call {
         }
     }
 
-    // The level of the block that the call asks for; 13 for a release.
+    // The level of the block that the call asks for; none for a release.
     fn wanted(self) -> u16
         ensures { λ r. ⌜ r ≡ wantedBy (callOf self 0) ⌝ }
     {
         match self {
             Call::GrantLevel { tenant: _, level } => level,
             Call::GrantPages { tenant: _, pages } => request::level_for(pages),
-            Call::Release { tenant: _ } => 13,
+            Call::Release { tenant: _ } => NO_LEVEL,
         }
     }
 }
@@ -81,8 +82,8 @@ pub struct Called {
 
 // A refusal has no moves.
 fn refused(number: u16) -> Called
-    ensures value { λ r. ⌜ ((T : List ℕ) → valueOf r T ≡ refusal number T) ⌝ }
-    ensures few { λ r. ⌜ r .plan .n ≤ 4 ⌝ }
+    requires { ⌜ 0 < number ⌝ }
+    ensures { λ r. ⌜ ((T : List ℕ) → Gives (Step·refused number T) r T) ⌝ }
 {
     Called {
         answer: Answer::Refused { number },
@@ -92,7 +93,8 @@ fn refused(number: u16) -> Called
 
 // Opens a reserve on a lent table: every entry becomes 0.
 pub fn open(height: u16, table: &mut [u16]) -> Answer
-    ensures { λ r. ⌜ answered r (now (table .exit)) ≡ open-reserve height (now (table .entry)) ⌝ }
+    ensures answer { λ r. ⌜ r ≡ answerOf (open-reserve height (now (table .entry)) .answer) 0 ⌝ }
+    ensures table { λ _. ⌜ now (table .exit) ≡ open-reserve height (now (table .entry)) .table ⌝ }
 {
     let number = request::reserve_refusal(height, table.len());
     if number != 0 {
@@ -104,48 +106,11 @@ pub fn open(height: u16, table: &mut [u16]) -> Answer
 
 // Runs a call; `entries` is how many entries the lent move list has.
 pub fn run(height: u16, table: &mut [u16], entries: usize, call: Call) -> Called
-    ensures value { λ r. ⌜ valueOf r (now (table .exit)) ≡ step height (now (table .entry)) (callOf call entries) ⌝ }
-    ensures few { λ r. ⌜ r .plan .n ≤ 4 ⌝ }
+    ensures { λ r. ⌜ Gives (step height (now (table .entry)) (callOf call entries)) r (now (table .exit)) ⌝ }
 {
     let number = request::call_refusal(height, table.len(), entries, call);
     if number != 0 {
         return refused(number);
     }
     change::change(height, table, call.tenant(), call.wanted())
-}
-
-// Grants a tenant a block of a level.
-pub fn grant_level(
-    height: u16,
-    table: &mut [u16],
-    entries: usize,
-    tenant: u16,
-    level: u16,
-) -> Called
-    ensures value { λ r. ⌜ valueOf r (now (table .exit)) ≡ step height (now (table .entry)) (grant-level tenant level entries) ⌝ }
-    ensures few { λ r. ⌜ r .plan .n ≤ 4 ⌝ }
-{
-    run(height, table, entries, Call::GrantLevel { tenant, level })
-}
-
-// Grants a tenant the smallest block that has so many pages.
-pub fn grant_pages(
-    height: u16,
-    table: &mut [u16],
-    entries: usize,
-    tenant: u16,
-    pages: u16,
-) -> Called
-    ensures value { λ r. ⌜ valueOf r (now (table .exit)) ≡ step height (now (table .entry)) (grant-pages tenant pages entries) ⌝ }
-    ensures few { λ r. ⌜ r .plan .n ≤ 4 ⌝ }
-{
-    run(height, table, entries, Call::GrantPages { tenant, pages })
-}
-
-// Releases a tenant's block.
-pub fn release(height: u16, table: &mut [u16], entries: usize, tenant: u16) -> Called
-    ensures value { λ r. ⌜ valueOf r (now (table .exit)) ≡ step height (now (table .entry)) (release-by tenant entries) ⌝ }
-    ensures few { λ r. ⌜ r .plan .n ≤ 4 ⌝ }
-{
-    run(height, table, entries, Call::Release { tenant })
 }

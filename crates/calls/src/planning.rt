@@ -1,6 +1,7 @@
 // The plan of a grant and of a release, from the counts and the owners of a table in order.
 ghost use Rattle.calls.specs.Changes.{GrantPlannable, GrantPlanned, ReleasePlannable, ReleasePlanned};
 use layout::Counts;
+use layout::NO_LEVEL;
 use table::plan::Planned;
 use table::plan::plan_moves;
 
@@ -21,5 +22,5 @@ pub fn plan_release(height: u16, counts: Counts, node: u16, owners: &[u16; 8192]
 {
     let old = counts.layout();
     let new = counts.one_fewer(tree::level(height, node)).layout();
-    plan_moves(height, old, new, node, 13, owners)
+    plan_moves(height, old, new, node, NO_LEVEL, owners)
 }

@@ -6,6 +6,20 @@ ghost use Rattle.calls.specs.Call.{levelFor};
 ghost use Rattle.calls.specs.Step.{first, length-checks, list-checks, size-checks, validity};
 ghost use Rattle.calls.specs.Value.{callOf};
 use crate::Call;
+use layout::MAX_HEIGHT;
+use refusal::HEIGHT;
+use refusal::LEVEL;
+use refusal::MOVES;
+use refusal::PAGES;
+use refusal::TABLE_LENGTH;
+use refusal::TENANT;
+use table::TENANTS;
+
+// The largest tenant number.
+const LAST_TENANT: u16 = 4095;
+
+// The fewest move entries that a grant or a release takes.
+pub const LEAST_ENTRIES: usize = 4;
 
 // The level that a number of pages asks for: the smallest whose block has that many.
 pub fn level_for(pages: u16) -> u16
@@ -21,30 +35,30 @@ pub fn level_for(pages: u16) -> u16
 pub fn reserve_refusal(height: u16, length: usize) -> u16
     ensures { λ r. ⌜ r ≡ first (length-checks height length) ⌝ }
 {
-    if 12 < height {
-        return 1;
+    if MAX_HEIGHT < height {
+        return HEIGHT;
     }
-    if length != 4096 {
-        return 2;
+    if length != TENANTS {
+        return TABLE_LENGTH;
     }
     0
 }
 
 // The number of the first of refusals 3 and 4 that applies, or 0.
-pub fn list_refusal(entries: usize, tenant: u16) -> u16
+fn list_refusal(entries: usize, tenant: u16) -> u16
     ensures { λ r. ⌜ r ≡ first (list-checks tenant entries) ⌝ }
 {
-    if entries < 4 {
-        return 3;
+    if entries < LEAST_ENTRIES {
+        return MOVES;
     }
-    if 4095 < tenant {
-        return 4;
+    if LAST_TENANT < tenant {
+        return TENANT;
     }
     0
 }
 
 // The number of the first of refusals 1 to 4 that applies, or 0.
-pub fn refusal(height: u16, length: usize, entries: usize, tenant: u16) -> u16
+fn first_of_four(height: u16, length: usize, entries: usize, tenant: u16) -> u16
     ensures { λ r. ⌜ r ≡ first (length-checks height length ++ list-checks tenant entries) ⌝ }
 {
     let number = reserve_refusal(height, length);
@@ -60,9 +74,13 @@ fn size_refusal(height: u16, call: Call) -> u16
     ensures { λ r. ⌜ r ≡ first (size-checks height (callOf call 0)) ⌝ }
 {
     match call {
-        Call::GrantLevel { tenant: _, level } => { if height < level { 5 } else { 0 } }
+        Call::GrantLevel { tenant: _, level } => { if height < level { LEVEL } else { 0 } }
         Call::GrantPages { tenant: _, pages } => {
-            if layout::power(height) < pages { 6 } else { 0 }
+            if layout::power(height) < pages {
+                PAGES
+            } else {
+                0
+            }
         }
         Call::Release { tenant: _ } => 0,
     }
@@ -72,7 +90,7 @@ fn size_refusal(height: u16, call: Call) -> u16
 pub fn call_refusal(height: u16, length: usize, entries: usize, call: Call) -> u16
     ensures { λ r. ⌜ r ≡ first (length-checks height length ++ validity height (callOf call entries)) ⌝ }
 {
-    let number = refusal(height, length, entries, call.tenant());
+    let number = first_of_four(height, length, entries, call.tenant());
     if number != 0 {
         return number;
     }

@@ -1,8 +1,11 @@
 // Makes the calls that document 01 gives to check against, and those at the edges of their arguments. A line for each call, as in the listing
 // but without its ordinal: kind, height or tenant, level or pages, answer, node, number of moves, each move. A line with = has the entries
-// of the table that are not 0, as tenant:node. The file stdout holds what document 01 says of them.
+// of the table that are not 0, as tenant:node. The file stdout holds what document 01 says of them. The calls go through the functions that
+// the C door and the listing use.
 use calls::Answer;
+use calls::Call;
 use calls::Called;
+use planner::perform_by_value;
 use table::Move;
 use table::plan::Plan;
 
@@ -232,7 +235,7 @@ fn full() {
 
 fn fill(table: &mut [u16]) {
     for tenant in 0..4096 {
-        calls::grant_level(12, table, 4, tenant, 0);
+        perform_by_value(12, table, 4, Call::GrantLevel { tenant, level: 0 });
     }
 }
 
@@ -261,7 +264,7 @@ fn open(height: u16, table: &mut [u16]) {
 }
 
 fn grant(height: u16, table: &mut [u16], entries: usize, tenant: u16, level: u16) {
-    let called = calls::grant_level(height, table, entries, tenant, level);
+    let called = perform_by_value(height, table, entries, Call::GrantLevel { tenant, level });
     text(b"G ");
     print(tenant as usize);
     text(b" ");
@@ -270,7 +273,7 @@ fn grant(height: u16, table: &mut [u16], entries: usize, tenant: u16, level: u16
 }
 
 fn grant_pages(height: u16, table: &mut [u16], entries: usize, tenant: u16, pages: u16) {
-    let called = calls::grant_pages(height, table, entries, tenant, pages);
+    let called = perform_by_value(height, table, entries, Call::GrantPages { tenant, pages });
     text(b"P ");
     print(tenant as usize);
     text(b" ");
@@ -279,7 +282,7 @@ fn grant_pages(height: u16, table: &mut [u16], entries: usize, tenant: u16, page
 }
 
 fn release(height: u16, table: &mut [u16], entries: usize, tenant: u16) {
-    let called = calls::release(height, table, entries, tenant);
+    let called = perform_by_value(height, table, entries, Call::Release { tenant });
     text(b"R ");
     print(tenant as usize);
     text(b" -");

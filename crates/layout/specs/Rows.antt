@@ -14,6 +14,10 @@ use Rattle.layout.specs.declared.Layout.{Layout}
 abbrev pub no-index : ℕ
 no-index = 65535
 
+-- what stands for a level where there is none: no reserve has it
+abbrev pub no-level : ℕ
+no-level = 13
+
 -- Lone blocks
 
 -- by whether a number of subtrees is even or odd

@@ -8,8 +8,14 @@ ghost use Rattle.layout.specs.Counts.{more};
 ghost use Rattle.layout.specs.Rows.{rowsOf, inRow, holdsNode, kthIndex, kthNode, expectedNode};
 ghost use Rattle.layout.specs.Climb.{stateOf, mark};
 
-// What stands for an index, or for a level, where there is none.
+// What stands for an index, or for a level of a lone block, where there is none.
 pub const NONE: u16 = 65_535;
+
+// The greatest height of a reserve.
+pub const MAX_HEIGHT: u16 = 12;
+
+// A level that no reserve has: where no level is wanted.
+pub const NO_LEVEL: u16 = 13;
 
 // How many blocks each level has.
 pub struct Counts {
@@ -113,7 +119,7 @@ impl Counts {
     pub fn expected(self, height: u16, level: u16, k: u16) -> u16
         ensures { λ r. ⌜ r ≡ expectedNode (self .at) height level k ⌝ }
     {
-        if 12 < height {
+        if MAX_HEIGHT < height {
             return 0;
         }
         let room = power(height) as u32;
@@ -130,7 +136,7 @@ impl Layout {
     pub fn holds(self, height: u16, node: u16) -> bool
         ensures { λ r. ⌜ r ≡ holdsNode self height node ⌝ }
     {
-        if 12 < height {
+        if MAX_HEIGHT < height {
             return false;
         }
         if node == 0 {
@@ -152,7 +158,7 @@ impl Layout {
     pub fn node(self, height: u16, level: u16, k: u16) -> u16
         ensures { λ r. ⌜ r ≡ kthNode self height level k ⌝ }
     {
-        if 12 < height {
+        if MAX_HEIGHT < height {
             return 0;
         }
         if height < level {

@@ -12,6 +12,8 @@ ghost use Rattle.pagemap.specs.Count.{setBits, counted};
 ghost use Rattle.pagemap.specs.Flags.{flags, filled, rowFilled};
 use calls::request::reserve_refusal;
 use layout::Layout;
+use refusal::NOT_IN_ORDER;
+use refusal::TOO_SHORT;
 use survey::survey;
 
 // What counting answers: 0 and the number of set bits, or 15 and 0.
@@ -31,10 +33,10 @@ pub fn draw(height: u16, table: &[u16], map: &mut [u8]) -> u16
     let mut owner = [0u16; 8192];
     let found = survey(height, table, &mut owner);
     if !found.in_order {
-        return 7;
+        return NOT_IN_ORDER;
     }
     if map.len() < 512 {
-        return 15;
+        return TOO_SHORT;
     }
     let counts = found.counts;
     write_map(counts.layout(), map);
@@ -52,7 +54,7 @@ pub fn count(map: &[u8]) -> Counted
         };
     }
     Counted {
-        answer: 15,
+        answer: TOO_SHORT,
         count: 0,
     }
 }

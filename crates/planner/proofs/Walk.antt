@@ -59,10 +59,6 @@ module _ {M : Type 1} {𝓤 : URA M} {H : Heap 𝓤} {A : Atoms 𝓤} {K : Type 
   pub let-go : K → {τ : Ty} {b : ℕ} {v : Val} {E : Env 𝓤 H} {g : Goal 𝓤 H} → Step K W Γ (frees E g) (full τ b v Γ) (frees ((τ, b) ∷ E) g)
   let-go t = step (λ s. forget t 0 refl $ free1 t $ s)
 
--- two clauses of an `ensures` that state facts are one
-pub both : {M : Type 1} (𝓤 : URA M) (φ ψ : Type 0) → ent 𝓤 (sep 𝓤 (fact 𝓤 φ) (fact 𝓤 ψ)) (fact 𝓤 (φ × ψ))
-both 𝓤 φ ψ = fact-use 𝓤 φ (fst∗ 𝓤 (fact 𝓤 φ) (fact 𝓤 ψ)) (λ p. fact-use 𝓤 ψ (snd∗ 𝓤 (fact 𝓤 φ) (fact 𝓤 ψ)) (λ q. factI 𝓤 (φ × ψ) (sep 𝓤 (fact 𝓤 φ) (fact 𝓤 ψ)) (p, q)))
-
 module _ {M : Type 1} {𝓤 : URA M} {H : Heap 𝓤} {A : Atoms 𝓤} {K : Type 0} {W : Given 𝓤 H A} {Γ : List (Item 𝓤)} {G : Goal 𝓤 H} where
   -- A function with the clauses c has returned v. There are a result r, that v stands for, and last values ws of which the `ensures` states φ. The tokens are back, and what is said of ws is there.
   pub answers : K → Soaks G → (T : Ended) (c : Clauses 𝓤 T) (y : tripleOf 𝓤 H A (T .signature) (closing 𝓤 H A T c) .Ghost) (v : Val)

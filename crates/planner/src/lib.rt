@@ -3,14 +3,14 @@ ghost use mathlib.Core.Path.{_≡_};
 ghost use mathlib.Core.List.{_++_};
 ghost use Prim.Native.Nat.{_≤_, _<_};
 ghost use lib.ListN.{length, getD, drop};
-ghost use Rattle.table.specs.Plan.{movesIn};
-ghost use Rattle.calls.specs.Accepted.{nobody};
+ghost use Rattle.table.specs.Plan.{movesIn, no-move};
 ghost use Rattle.calls.specs.Step.{step};
-ghost use Rattle.calls.specs.Value.{callOf, valueOf};
+ghost use Rattle.calls.specs.Value.{callOf, Gives};
 ghost use Rattle.planner.specs.Performed.{Performed};
 use calls::Answer;
 use calls::Call;
 use calls::Called;
+use calls::request::LEAST_ENTRIES;
 use table::Move;
 use table::plan::Plan;
 
@@ -35,10 +35,9 @@ pub fn perform(height: u16, table: &mut [u16], moves: &mut [Move], call: Call) -
 
 // Runs a call on a list of so many entries, and hands its moves back by value: for callers that lend no list.
 pub fn perform_by_value(height: u16, table: &mut [u16], entries: usize, call: Call) -> Called
-    ensures value { λ r. ⌜ valueOf r (now (table .exit)) ≡ step height (now (table .entry)) (callOf call entries) ⌝ }
-    ensures few { λ r. ⌜ r .plan .n ≤ 4 ⌝ }
+    ensures { λ r. ⌜ Gives (step height (now (table .entry)) (callOf call entries)) r (now (table .exit)) ⌝ }
 {
-    if entries < 4 {
+    if entries < LEAST_ENTRIES {
         return calls::run(height, table, entries, call);
     }
     perform_on_four(height, table, call)
@@ -46,7 +45,7 @@ pub fn perform_by_value(height: u16, table: &mut [u16], entries: usize, call: Ca
 
 // Runs a call on a list of its own, of four entries, and hands its moves back by value.
 fn perform_on_four(height: u16, table: &mut [u16], call: Call) -> Called
-    ensures { λ r. ⌜ (valueOf r (now (table .exit)) ≡ step height (now (table .entry)) (callOf call 4)) × (r .plan .n ≤ 4) ⌝ }
+    ensures { λ r. ⌜ Gives (step height (now (table .entry)) (callOf call 4)) r (now (table .exit)) ⌝ }
 {
     let unused = Move {
         tenant: 0,
@@ -80,7 +79,7 @@ fn fill(plan: Plan, moves: &mut [Move])
 // A move of a plan.
 fn move_at(plan: Plan, i: usize) -> Move
     requires { ⌜ i < 4 ⌝ }
-    ensures { λ r. ⌜ r ≡ getD (plan .moves) i nobody ⌝ }
+    ensures { λ r. ⌜ r ≡ getD (plan .moves) i no-move ⌝ }
 {
     let moves = plan.moves;
     moves[i]

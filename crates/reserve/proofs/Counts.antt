@@ -2,17 +2,12 @@
 use mathlib.Core.Path.{_≡_, refl, sym, ap, _∙_}
 use mathlib.Core.List.{List, [], _∷_}
 use Prim.Native.Nat.{ℕ, zero, suc, _≤_, _<_}
-use native.Mathlib.Nat.{min-eq-left, min-eq-right}
+use native.Mathlib.Nat.{min-eq-left}
 use native.Mathlib.Omega.{arith}
 use lib.ListN.{length, take, length-take}
 use Rattle.table.specs.declared.Move.{Move}
 
 module _ (ms : List Move) (n : ℕ) (four : length ms ≡ 4) where
-  pub count-all : 4 < n → 4 ≡ length (take n ms)
-  count-all p =
-      let fewer : length ms ≤ n = omega arith in
-      sym (length-take n ms ∙ min-eq-right fewer ∙ four)
-
   pub count-some : n ≤ 4 → n ≡ length (take n ms)
   count-some p =
       let within : n ≤ length ms = omega arith in

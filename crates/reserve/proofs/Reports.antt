@@ -9,9 +9,10 @@ use lib.ListN.{length, take, drop, drop-of-length-le}
 use lib.Seq.{length-take-le, length-front}
 use Rattle.calls.specs.Call.{Call}
 use Rattle.calls.specs.Step.{Outcome as Result, first, step, reserve-checks, open-reserve}
-use Rattle.calls.specs.Value.{numberOf, answered, valueOf}
+use Rattle.calls.specs.Value.{numberOf, answerOf, Gives, answered, valueOf}
 use Rattle.calls.specs.declared.Answer.{Answer}
 use Rattle.calls.specs.declared.Called.{Called}
+use Rattle.calls.proofs.Given.{value-of-step, value-of-opening}
 use Rattle.calls.proofs.Opening.{opened-table, table-length}
 use Rattle.calls.proofs.Entries.{entriesOf, zero-passes, done-table, done-entries}
 use Rattle.reserve.specs.Image.{imageOf, tableOf, moveBytes}
@@ -92,9 +93,9 @@ front-count {image} {nodes} {n} d = sym (length-take-le n nodes (omega (arith, d
 
 -- a grant or release that was asked of the front of the array
 module _ (h : ℕ) (c : Call) (called : Called) {image nodes after : List ℕ} {n : ℕ} (d : Decoded image nodes n)
-    (kept : length after ≡ length (take n nodes)) (met : valueOf called after ≡ step h (take n nodes) c) where
+    (kept : length after ≡ length (take n nodes)) (given : Gives (step h (take n nodes) c) called after) where
   met-on-table : valueOf called after ≡ step h (tableOf image) c
-  met-on-table = met ∙ ap (λ (T : List ℕ). step h T c) (d .front)
+  met-on-table = value-of-step h (take n nodes) c given ∙ ap (λ (T : List ℕ). step h T c) (d .front)
 
   answer-met : numberOf (called .answer) ≡ step h (tableOf image) c .answer
   answer-met = ap (λ (o : Result). o .answer) met-on-table
@@ -126,9 +127,9 @@ module _ (h : ℕ) (c : Call) (called : Called) {image nodes after : List ℕ} {
 
 -- an opening that was asked of the front of the array
 module _ (h : ℕ) (a : Answer) {image nodes after : List ℕ} {n k : ℕ} (d : Decoded image nodes n) (kept : length after ≡ length (take n nodes))
-    (met : answered a after ≡ open-reserve h (take n nodes)) (named : k ≡ numberOf a) where
+    (given : a ≡ answerOf (open-reserve h (take n nodes) .answer) 0) (cleared : after ≡ open-reserve h (take n nodes) .table) (named : k ≡ numberOf a) where
   open-on-table : answered a after ≡ open-reserve h (tableOf image)
-  open-on-table = met ∙ ap (open-reserve h) (d .front)
+  open-on-table = value-of-opening h (take n nodes) a after given cleared ∙ ap (open-reserve h) (d .front)
 
   opened : Through image nodes after n (open-reserve h (tableOf image))
   opened = record {

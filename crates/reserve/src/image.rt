@@ -41,17 +41,6 @@ pub fn encode(nodes: &[u16; 4096], image: &mut [u8])
     }
 }
 
-// How many moves a plan has.
-pub fn move_count(plan: Plan) -> usize
-    ensures count { λ r. ⌜ r ≡ length (movesIn plan) ⌝ }
-    ensures few { λ r. ⌜ r ≤ 4 ⌝ }
-{
-    if 4 < plan.n {
-        return 4;
-    }
-    plan.n
-}
-
 // Writes the six bytes of a move at an index.
 fn put_move(list: &mut [u8], at: usize, m: Move)
     requires { ⌜ at + 6 ≤ length (now list) ⌝ }
@@ -64,10 +53,10 @@ fn put_move(list: &mut [u8], at: usize, m: Move)
 
 // Writes the moves of a plan from the front of the list, and leaves the bytes after them.
 pub fn put_moves(plan: Plan, list: &mut [u8])
-    requires { ⌜ 24 ≤ length (now list) ⌝ }
+    requires { ⌜ (plan .n ≤ 4) × (24 ≤ length (now list)) ⌝ }
     ensures { λ _. ⌜ now (list .exit) ≡ moveBytes (movesIn plan) ++ drop (6 * length (movesIn plan)) (now (list .entry)) ⌝ }
 {
-    let n = move_count(plan);
+    let n = plan.n;
     let moves = plan.moves;
     let mut k = 0;
     while k < n {

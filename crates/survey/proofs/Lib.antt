@@ -3,3 +3,4 @@ pub mod Owned
 pub mod Looked
 pub mod InOrder
 pub mod Gathered
+pub mod Surveyed

@@ -12,19 +12,20 @@ ghost use Rattle.layout.specs.Layout.{pages};
 ghost use Rattle.layout.specs.Rows.{no-index, rowsOf};
 ghost use Rattle.table.specs.Table.{in-order?};
 ghost use Rattle.survey.specs.Owned.{rowOwned, rowsOwned};
-ghost use Rattle.survey.specs.Survey.{Gathered, Surveyed};
+ghost use Rattle.survey.specs.Survey.{Gathered, findingOf, ownersFound};
 
-// What a survey finds: whether the table is in order and, if it is, how many blocks each level has.
+// What a survey finds: whether the table is in order, and how many nodes of each level are held.
 pub struct Finding {
     pub in_order: bool,
     pub counts: Counts,
 }
 
-// What the table shows. Where it is in order, `owner`, which is lent as zeros, then has at each held node its tenant's number
-// and one.
+// What the table shows. `owner`, which is lent as zeros, then has at each held node its tenant's number and one; where a node lies past the
+// tree, it is left as it was, and nothing is counted.
 pub fn survey(height: u16, table: &[u16], owner: &mut [u16; 8192]) -> Finding
     requires { ⌜ (height ≤ 12) × (length (now table) ≡ 4096) × (now owner ≡ replicate 8192 0) ⌝ }
-    ensures { λ r. ⌜ Surveyed height (now (table .entry)) (now (owner .exit)) r ⌝ }
+    ensures finding { λ r. ⌜ r ≡ findingOf height (now (table .entry)) ⌝ }
+    ensures owners { λ _. ⌜ now (owner .exit) ≡ ownersFound height (now (table .entry)) ⌝ }
 {
     if !owners(height, table, owner) {
         return Finding {

@@ -15,6 +15,7 @@ pub mod Once
 pub mod Owners
 pub mod Levels
 pub mod Least
+pub mod PlanOf
 pub mod Shifting
 pub mod RowNodes
 pub mod Planning

@@ -23,7 +23,7 @@ use Rattle.layout.proofs.Rows.{rows-hold-layout}
 use Rattle.table.specs.Table.{nodeAt, occupied, countsOf, InOrder}
 use Rattle.table.specs.Pairing.{Shift, shifts, newcomer, ownerOf, movesOf}
 use Rattle.table.specs.Owners.{ownersOf}
-use Rattle.table.specs.Plan.{movesIn, moveOf, nodesBut, shiftsOf, newcomerOn, LevelWithin, Plannable, AllPlanned}
+use Rattle.table.specs.Plan.{planOf, moveOf, nodesBut, shiftsOf, newcomerOn, LevelWithin, Plannable, AllPlanned}
 use Rattle.table.specs.declared.plan.Planned.{Planned}
 use Rattle.table.proofs.Order.{in-order-fits, in-order-is-layout}
 use Rattle.table.proofs.Shifting.{near-turned}
@@ -145,11 +145,11 @@ module _ {h : ℕ} {cs ds : List ℕ} {gone : ℕ} {T owners : List ℕ} (p : Re
         few = rw count-of-table (p .few);
       }
 
-  -- the plan's moves and their number are the table's, and its node the newcomer's
+  -- the plan is that of the table's moves, and its node the newcomer's
   pub plan-of-table : (x : ℕ) (r : Planned) → AllPlanned h (rowsOf cs) (rowsOf ds) gone x owners r
-      → (movesIn (r .plan) ≡ movesOf h (layoutSet h ds) T) × (r .plan .n ≡ length (movesOf h (layoutSet h ds) T))
+      → (r .plan ≡ planOf (movesOf h (layoutSet h ds) T))
       × (r .node ≡ cond (leb x h) (newcomer h (occupied T) (layoutSet h ds) x) 0)
-  plan-of-table x r q = (q .moves ∙ moves-of-table, q .count ∙ count-of-table, q .node ∙ same-newcomer)
+  plan-of-table x r q = (q .plan ∙ ap planOf moves-of-table, q .node ∙ same-newcomer)
     where
       same-newcomer : newcomerOn h (rowsOf cs) (rowsOf ds) gone x ≡ cond (leb x h) (newcomer h (occupied T) (layoutSet h ds) x) 0
       same-newcomer = ap₂ (λ (S N : Nodes). cond (leb x h) (newcomer h S N x) 0) old-nodes new-nodes

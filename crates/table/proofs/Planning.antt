@@ -14,11 +14,13 @@ use Rattle.tree.specs.Held.{Nodes}
 use Rattle.layout.specs.Rows.{no-index, holdsNode}
 use Rattle.layout.specs.declared.Layout.{Layout}
 use Rattle.table.specs.Pairing.{shiftsFrom, shifts, newcomer}
-use Rattle.table.specs.Plan.{rowHolds, onlyFrom, movesIn, nodesAt, spareIndex, moveOf, Shiftable, LevelShifted}
+use Rattle.table.specs.Plan.{rowHolds, onlyFrom, movesIn, planOf, nodesAt, spareIndex, moveOf, Shiftable, LevelShifted}
 use Rattle.table.specs.Plan.{nodeOn, nodesBut, shiftsAt, shiftsOf, newcomerOn, Plannable, LevelPlanned, AllPlanned}
 use Rattle.table.specs.declared.plan.Row.{Row}
 use Rattle.table.specs.declared.plan.Shifted.{Shifted}
 use Rattle.table.specs.declared.plan.Planned.{Planned}
+use Rattle.table.specs.declared.Move.{Move}
+use Rattle.table.proofs.PlanOf.{moves-in-plan-of, count-in-plan-of, made-of-its-moves}
 use Rattle.table.proofs.Least.{only-listed}
 use Rattle.table.proofs.RowNodes.{RowOf, oldRow, newRow, few-nodes, old-row, new-row, level-leavers, level-places, level-shifts}
 
@@ -81,8 +83,7 @@ module _ {h : ℕ} {old new : Layout} {gone : ℕ} {owners : List ℕ} (p : Plan
       → LevelPlanned h old new gone l x owners below (record { plan = s .plan; node = n })
   level-planned x below s t n e =
       record {
-        moves = rw (← level-shifts p l q) (t .moves);
-        count = rw (← level-shifts p l q) (t .count);
+        plan = rw (← level-shifts p l q) (t .plan);
         node = e ∙ by-level (ℕ-discrete l x);
       }
     where
@@ -100,6 +101,7 @@ pub record Planning (h : ℕ) (old new : Layout) (gone x : ℕ) (owners : List �
   pub moves : movesIn (sofar .plan) ++ map (moveOf owners) (shiftsFrom h (nodesBut h old gone) (holdsNode new h) l (suc h - l))
       ≡ map (moveOf owners) (shiftsOf h old new gone)
   pub count : sofar .plan .n + length (shiftsFrom h (nodesBut h old gone) (holdsNode new h) l (suc h - l)) ≡ length (shiftsOf h old new gone)
+  pub whole : sofar .plan ≡ planOf (movesIn (sofar .plan))
   pub node : sofar .node ≡ cond (ltb x l) (newcomerOn h old new gone x) 0
 
 -- below l + 1 is below l or l itself
@@ -112,14 +114,15 @@ one-more-below l x c d = by-order (ℕ-discrete l x) (decLt x l)
     by-order (no e) (no r) = rw (ne-eqb l x e, le-ltb x l (omega arith), le-ltb x (suc l) (omega arith))
 
 module _ (h : ℕ) (old new : Layout) (gone x : ℕ) (owners : List ℕ) where
-  pub planning-begins : (sofar : Planned) → sofar .plan .n ≡ 0 → movesIn (sofar .plan) ≡ [] → sofar .node ≡ 0
+  pub planning-begins : (sofar : Planned) → sofar .plan ≡ planOf [] → sofar .node ≡ 0
       → Planning h old new gone x owners sofar 0
   unfolding shifts
-  planning-begins sofar n m e =
+  planning-begins sofar none e =
       record {
         in-height = omega arith;
-        moves = rw (m, sub-zero);
-        count = rw (n, sub-zero) (omega arith);
+        moves = rw (moves-in-plan-of (sofar .plan) [] none, sub-zero);
+        count = rw (count-in-plan-of (sofar .plan) [] none, sub-zero) (omega arith);
+        whole = made-of-its-moves (sofar .plan) [] none;
         node = e ∙ ap (λ t. cond t (newcomerOn h old new gone x) 0) (sym (le-ltb x 0 (omega arith)));
       }
 
@@ -141,17 +144,30 @@ module _ {h : ℕ} {old new : Layout} {gone x : ℕ} {owners : List ℕ} {sofar 
       rw add-one
       (record {
         in-height = omega arith;
-        moves = rw (t .moves, append-assoc, ← map-append) (rw (level-opens q) at (s .moves));
-        count = rw (t .count) (omega (arith, rw (level-opens q, length-append) at (s .count)));
+        moves = rw (moves-in-plan-of (after .plan) with-level (t .plan), append-assoc, ← map-append) (rw (level-opens q) at (s .moves));
+        count = rw longer (omega (arith, rw (level-opens q, length-append) at (s .count)));
+        whole = made-of-its-moves (after .plan) with-level (t .plan);
         node = t .node ∙ ap (cond (eqb l x) (newcomerOn h old new gone x)) (s .node) ∙ one-more-below l x (newcomerOn h old new gone x) 0;
       })
+    where
+      of-level : List Move
+      of-level = map (moveOf owners) (shiftsAt h old new gone l)
+
+      with-level : List Move
+      with-level = movesIn (sofar .plan) ++ of-level
+
+      longer : after .plan .n ≡ sofar .plan .n + length (shiftsAt h old new gone l)
+      longer =
+          let appended = length-append (movesIn (sofar .plan)) of-level in
+          let mapped = length-map (shiftsAt h old new gone l) (moveOf owners) in
+          let before = count-in-plan-of (sofar .plan) (movesIn (sofar .plan)) (s .whole) in
+          omega (arith, count-in-plan-of (after .plan) with-level (t .plan), appended, mapped, before)
 
   pub planning-ends : h < l → AllPlanned h old new gone x owners sofar
   planning-ends q =
       let none : suc h - l ≡ 0 = omega (arith, s .in-height) in
       record {
-        moves = rw (none, append-nil) at (s .moves);
-        count = omega (arith, rw none at (s .count));
+        plan = s .whole ∙ ap planOf (rw (none, append-nil) at (s .moves));
         node = s .node ∙ by-level (decLt h x);
       }
     where

@@ -1,5 +1,5 @@
 -- One level's moves: what is paired after each turn of the loop over the two rows, and that at its end everything is.
-use mathlib.Core.Path.{_≡_, refl, sym, _∙_}
+use mathlib.Core.Path.{_≡_, refl, sym, ap, _∙_}
 use mathlib.Core.Bool.{Bool, true, false, not, and-eq-true-iff, and-not-self}
 use mathlib.Core.Logic.{_⊎_, inl, inr}
 use mathlib.Core.List.{List, [], _∷_, _++_, map, append-nil, append-assoc}
@@ -8,14 +8,16 @@ use native.Mathlib.Numerals.{add-one}
 use native.Mathlib.Omega.{arith}
 use borrow.Author.Tests.{eqb-true}
 use lib.Dec.{eqb}
-use lib.ListN.{length, getD}
+use lib.ListN.{length, getD, length-append}
 use Rattle.layout.specs.Runs.{Near}
 use Rattle.layout.specs.Rows.{no-index, upFrom}
 use Rattle.table.specs.Pairing.{keep, Shift, pair}
-use Rattle.table.specs.Plan.{rowHolds, sameRow, onlyIn, onlyFrom, leastOnly, movesIn, nodesAt, levelShifts, spareIndex, moveOf}
+use Rattle.table.specs.Plan.{rowHolds, sameRow, onlyIn, onlyFrom, leastOnly, movesIn, planOf, nodesAt, levelShifts, spareIndex, moveOf}
 use Rattle.table.specs.Plan.{LevelShifted}
 use Rattle.table.specs.declared.plan.Row.{Row}
 use Rattle.table.specs.declared.plan.Plan.{Plan}
+use Rattle.table.specs.declared.Move.{Move}
+use Rattle.table.proofs.PlanOf.{moves-in-plan-of, count-in-plan-of, made-of-its-moves}
 use Rattle.table.proofs.Least.{Found, least-found, only-none, only-cons, only-from-least, found-is-least}
 
 pub near-turned : {i n i′ n′ : ℕ} → Near i n i′ n′ → Near i′ n′ i n
@@ -38,6 +40,7 @@ pub record Shifting (b : ℕ) (v w : Row) (owners : List ℕ) (before plan : Pla
   pub next-place : Found (onlyIn w v) 0 j
   pub moves : movesIn plan ++ map (moveOf owners) (restShifts b v w i j) ≡ movesIn before ++ map (moveOf owners) (levelShifts b v w)
   pub count : plan .n + length (restShifts b v w i j) ≡ before .n + length (levelShifts b v w)
+  pub whole : plan ≡ planOf (movesIn plan)
   pub spare : getD (onlyFrom w v j) (length (onlyFrom v w i)) no-index ≡ spareIndex v w
 
 pair-with-none : (xs : List ℕ) → pair xs [] ≡ []
@@ -50,10 +53,10 @@ module _ (b : ℕ) (v w : Row) where
   unfolding restShifts
   rest-cons i j q e r f = rw (only-cons v w i q e, only-cons w v j r f)
 
-  pub shifting-begins : (owners : List ℕ) (before : Plan) (i j : ℕ) → i ≡ leastOnly v w 0 → j ≡ leastOnly w v 0
-      → Shifting b v w owners before before i j
+  pub shifting-begins : (owners : List ℕ) (before : Plan) (i j : ℕ) → before ≡ planOf (movesIn before)
+      → i ≡ leastOnly v w 0 → j ≡ leastOnly w v 0 → Shifting b v w owners before before i j
   unfolding restShifts levelShifts spareIndex
-  shifting-begins owners before i j e f =
+  shifting-begins owners before i j whole e f =
       let left = only-from-least v w 0 (omega arith) in
       let places = only-from-least w v 0 (omega arith) in
       rw (e, f)
@@ -62,6 +65,7 @@ module _ (b : ℕ) (v w : Row) where
         next-place = least-found w v 0 (omega arith);
         moves = rw (left, places);
         count = rw (left, places);
+        whole = whole;
         spare = rw (left, places);
       })
 
@@ -76,10 +80,10 @@ module _ {b : ℕ} {v w : Row} {owners : List ℕ} {before plan : Plan} {i j : �
   room-left q r = rw (← s .count, rest-cons b v w i j q (s .next-left .passes q) r (s .next-place .passes r)) (omega arith)
 
   pub shifting-goes-on : (after : Plan) (i′ j′ : ℕ) → i < no-index → j < no-index
-      → after .n ≡ plan .n + 1 → movesIn after ≡ movesIn plan ++ (moveOf owners (shiftAt b i j) ∷ [])
+      → after ≡ planOf (movesIn plan ++ (moveOf owners (shiftAt b i j) ∷ []))
       → i′ ≡ leastOnly v w (i + 1) → j′ ≡ leastOnly w v (j + 1) → Shifting b v w owners before after i′ j′
   unfolding restShifts
-  shifting-goes-on after i′ j′ q r n m e f =
+  shifting-goes-on after i′ j′ q r pushed e f =
       let left : onlyFrom v w i′ ≡ onlyFrom v w (suc i) = rw (e, add-one) (only-from-least v w (suc i) (omega arith)) in
       let places : onlyFrom w v j′ ≡ onlyFrom w v (suc j) = rw (f, add-one) (only-from-least w v (suc j) (omega arith)) in
       let opened = rest-cons b v w i j q (s .next-left .passes q) r (s .next-place .passes r) in
@@ -87,12 +91,21 @@ module _ {b : ℕ} {v w : Row} {owners : List ℕ} {before plan : Plan} {i j : �
       record {
         next-left = rw e (from-zero (least-found v w (i + 1) (omega arith)));
         next-place = rw f (from-zero (least-found w v (j + 1) (omega arith)));
-        moves = rw (m, rest, append-assoc) (rw opened at (s .moves));
-        count = rw (n, rest) (omega (arith, rw opened at (s .count)));
+        moves = rw (moves-in-plan-of after longer pushed, rest, append-assoc) (rw opened at (s .moves));
+        count = rw (one-more, rest) (omega (arith, rw opened at (s .count)));
+        whole = made-of-its-moves after longer pushed;
         spare =
             rw (left, places)
             (rw (only-cons v w i q (s .next-left .passes q), only-cons w v j r (s .next-place .passes r)) at (s .spare));
       }
+    where
+      longer : List Move
+      longer = movesIn plan ++ (moveOf owners (shiftAt b i j) ∷ [])
+
+      one-more : after .n ≡ plan .n + 1
+      one-more =
+          let appended = length-append (movesIn plan) (moveOf owners (shiftAt b i j) ∷ []) in
+          omega (arith, count-in-plan-of after longer pushed, appended, count-in-plan-of plan (movesIn plan) (s .whole))
 
   pub shifting-ends : (no-index ≤ i) ⊎ (no-index ≤ j) → LevelShifted b v w owners before (record { plan = plan; spare = j })
   unfolding restShifts
@@ -100,8 +113,7 @@ module _ {b : ℕ} {v w : Row} {owners : List ℕ} {before plan : Plan} {i j : �
       let e : i ≡ no-index = omega (arith, s .next-left .fits) in
       let left : onlyFrom v w i ≡ [] = rw e (only-none v w) in
       record {
-        moves = rw (left, append-nil) at (s .moves);
-        count = omega (arith, rw left at (s .count));
+        plan = s .whole ∙ ap planOf (rw (left, append-nil) at (s .moves));
         spare = sym (found-is-least w v j (s .next-place)) ∙ (rw left at (s .spare));
       }
   shifting-ends (inr q) =
@@ -109,8 +121,7 @@ module _ {b : ℕ} {v w : Row} {owners : List ℕ} {before plan : Plan} {i j : �
       let places : onlyFrom w v j ≡ [] = rw e (only-none w v) in
       let none = pair-with-none (nodesAt b (onlyFrom v w i)) in
       record {
-        moves = rw (places, none, append-nil) at (s .moves);
-        count = omega (arith, rw (places, none) at (s .count));
+        plan = s .whole ∙ ap planOf (rw (places, none, append-nil) at (s .moves));
         spare = e ∙ (rw places at (s .spare));
       }
 
@@ -135,12 +146,13 @@ same-row-is v w e =
     let hole = eqb-true (v .hole) (w .hole) (most .1) in
     λ i. record { start = start i; run = run i; lone = lone i; hole = hole i }
 
-unshifted : (b : ℕ) (v : Row) (owners : List ℕ) (plan : Plan) → LevelShifted b v v owners plan (record { plan = plan; spare = no-index })
+unshifted : (b : ℕ) (v : Row) (owners : List ℕ) (plan : Plan) → plan ≡ planOf (movesIn plan)
+    → LevelShifted b v v owners plan (record { plan = plan; spare = no-index })
 unfolding levelShifts spareIndex
-unshifted b v owners plan =
+unshifted b v owners plan whole =
     let none = only-in-itself v in
-    record { moves = rw (none, append-nil); count = rw none (omega arith); spare = rw none }
+    record { plan = rw (none, append-nil) whole; spare = rw none }
 
-pub same-row-unshifted : (b : ℕ) (v w : Row) (owners : List ℕ) (plan : Plan) → sameRow v w ≡ true
+pub same-row-unshifted : (b : ℕ) (v w : Row) (owners : List ℕ) (plan : Plan) → plan ≡ planOf (movesIn plan) → sameRow v w ≡ true
     → LevelShifted b v w owners plan (record { plan = plan; spare = no-index })
-same-row-unshifted b v w owners plan e = rw (← same-row-is v w e) (unshifted b v owners plan)
+same-row-unshifted b v w owners plan whole e = rw (← same-row-is v w e) (unshifted b v owners plan whole)

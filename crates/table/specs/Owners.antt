@@ -17,6 +17,10 @@ unfoldable pub ownersFrom : List ℕ → ℕ → List ℕ → List ℕ
 ownersFrom o i [] = o
 ownersFrom o i (e ∷ T) = ownersFrom (set o (nodeOf e) (suc i)) (suc i) T
 
+-- the owners after the entries of all tenants, if these are stored; else as they were
+abbrev pub storedIf : Bool → List ℕ → List ℕ → List ℕ
+storedIf below o T = cond below (ownersFrom o 0 T) o
+
 -- the owners of the nodes below m
 abbrev pub ownersOf : ℕ → List ℕ → List ℕ
 ownersOf m T = ownersFrom (replicate m 0) 0 T

@@ -4,7 +4,7 @@ use mathlib.Core.Bool.{Bool, true, not, _&&_, cond}
 use mathlib.Core.List.{List, _++_, map}
 use Prim.Native.Nat.{ℕ, _+_, _-_, _^_, _≤_, _<_}
 use lib.Dec.{eqb, leb, ltb}
-use lib.ListN.{getD, length, take}
+use lib.ListN.{getD, length, take, replicate}
 use Rattle.tree.specs.Held.{Nodes}
 use Rattle.layout.specs.Runs.{Near}
 use Rattle.layout.specs.Rows.{no-index, startAt, runAt, loneAt, inRow, holdsNode, upFrom}
@@ -48,6 +48,14 @@ betterOf p a c best = cond (leb a c && ltb c best && p c) c best
 abbrev pub movesIn : Plan → List Move
 movesIn p = take (p .n) (p .moves)
 
+-- what an entry holds that no move stands in
+abbrev pub no-move : Move
+no-move = record { tenant = 0; from = 0; to = 0 }
+
+-- the plan of at most four moves: its entries after them hold no move
+abbrev pub planOf : List Move → Plan
+planOf ms = record { n = length ms; moves = ms ++ replicate (4 - length ms) no-move }
+
 -- the nodes with the given indices on the level whose first node is b
 abbrev pub nodesAt : ℕ → List ℕ → List ℕ
 nodesAt b is = map (λ i. b + i) is
@@ -74,8 +82,7 @@ pub record Shiftable (b : ℕ) (old new : Row) (owners : List ℕ) : Type 0 wher
 
 -- the plan with the level's moves at its end, and the index of the place left over
 pub record LevelShifted (b : ℕ) (old new : Row) (owners : List ℕ) (before : Plan) (after : Shifted) : Type 0 where
-  pub moves : movesIn (after .plan) ≡ movesIn before ++ map (moveOf owners) (levelShifts b old new)
-  pub count : after .plan .n ≡ before .n + length (levelShifts b old new)
+  pub plan : after .plan ≡ planOf (movesIn before ++ map (moveOf owners) (levelShifts b old new))
   pub spare : after .spare ≡ spareIndex old new
 
 -- the row of level l of a layout, with a hole
@@ -124,12 +131,10 @@ pub record Plannable (h : ℕ) (old new : Layout) (gone : ℕ) (owners : List �
 
 -- level l's moves at the end of the plan, and the newcomer's node if l is the level x that it wants
 pub record LevelPlanned (h : ℕ) (old new : Layout) (gone l x : ℕ) (owners : List ℕ) (before after : Planned) : Type 0 where
-  pub moves : movesIn (after .plan) ≡ movesIn (before .plan) ++ map (moveOf owners) (shiftsAt h old new gone l)
-  pub count : after .plan .n ≡ before .plan .n + length (shiftsAt h old new gone l)
+  pub plan : after .plan ≡ planOf (movesIn (before .plan) ++ map (moveOf owners) (shiftsAt h old new gone l))
   pub node : after .node ≡ cond (eqb l x) (newcomerOn h old new gone x) (before .node)
 
 -- the moves of all levels, and the newcomer's node
 pub record AllPlanned (h : ℕ) (old new : Layout) (gone x : ℕ) (owners : List ℕ) (r : Planned) : Type 0 where
-  pub moves : movesIn (r .plan) ≡ map (moveOf owners) (shiftsOf h old new gone)
-  pub count : r .plan .n ≡ length (shiftsOf h old new gone)
+  pub plan : r .plan ≡ planOf (map (moveOf owners) (shiftsOf h old new gone))
   pub node : r .node ≡ newcomerOn h old new gone x

@@ -3,6 +3,9 @@
 pub mod passes;
 pub mod plan;
 
+// How many tenants there are, and so how many entries a table has.
+pub const TENANTS: usize = 4096;
+
 // A tenant that moves: its number, its old node and its new one.
 pub struct Move {
     pub tenant: u16,

@@ -6,7 +6,7 @@ ghost use lib.Dec.{eqb, ltb};
 ghost use lib.ListN.{length};
 ghost use Rattle.tree.specs.Held.{one-if};
 ghost use Rattle.table.specs.Table.{tally};
-ghost use Rattle.table.specs.Owners.{nodes-below, ownersFrom, usedIn, levelCounts};
+ghost use Rattle.table.specs.Owners.{nodes-below, ownersFrom, storedIf, usedIn, levelCounts};
 
 // One for an entry that is 0.
 fn one_if_zero(entry: u16) -> u16
@@ -63,12 +63,12 @@ fn store(table: &[u16], owner: &mut [u16; 8192])
     }
 }
 
-// Whether no node lies past a tree of this height; if so, each node of the table has its owner stored. That all nodes are tested before the
-// first is stored makes both passes faster.
+// Whether no node lies past a tree of this height; if so, each node of the table has its owner stored, and else nothing is. That all nodes
+// are tested before the first is stored makes both passes faster.
 pub fn owners(height: u16, table: &[u16], owner: &mut [u16; 8192]) -> bool
     requires { ⌜ (length (now table) ≤ 4096) × (height ≤ 12) ⌝ }
     ensures below { λ r. ⌜ r ≡ nodes-below (2 ^ suc height) (now (table .entry)) ⌝ }
-    ensures stored { λ r. ⌜ (r ≡ true → now (owner .exit) ≡ ownersFrom (now (owner .entry)) 0 (now (table .entry))) ⌝ }
+    ensures stored { λ _. ⌜ now (owner .exit) ≡ storedIf (nodes-below (2 ^ suc height) (now (table .entry))) (now (owner .entry)) (now (table .entry)) ⌝ }
 {
     let limit = 2 * layout::power(height);
     if any_bits(table) < limit {

@@ -6,7 +6,7 @@ ghost use Prim.Native.Nat.{_+_, _^_, _≤_, _<_};
 ghost use lib.ListN.{length, getD};
 ghost use Rattle.layout.specs.Runs.{Near};
 ghost use Rattle.layout.specs.Rows.{no-index};
-ghost use Rattle.table.specs.Plan.{rowHolds, sameRow, lastOf, onlyIn, betterOf, leastOnly, movesIn};
+ghost use Rattle.table.specs.Plan.{rowHolds, sameRow, lastOf, onlyIn, betterOf, leastOnly, movesIn, planOf};
 ghost use Rattle.table.specs.Plan.{moveOf, levelShifts, Shiftable, LevelShifted};
 ghost use Rattle.table.specs.Plan.{rowOf, indexOn, nodeOn, shiftsAt, Plannable, LevelPlanned, AllPlanned};
 use crate::Move;
@@ -91,7 +91,7 @@ pub fn least(old: Row, new: Row, from: u16) -> u16
     better(old, new, from, new.hole, with_lone)
 }
 
-// At most four moves, in order: the first `n` entries. What the others hold means nothing.
+// At most four moves, in order: the first `n` entries. The others hold zeros.
 pub struct Plan {
     pub n: usize,
     pub moves: [Move; 4],
@@ -100,7 +100,7 @@ pub struct Plan {
 impl Plan {
     // No moves.
     pub fn none() -> Plan
-        ensures { λ r. ⌜ (r .n ≡ 0) × (movesIn r ≡ []) ⌝ }
+        ensures { λ r. ⌜ r ≡ planOf [] ⌝ }
     {
         let unused = Move {
             tenant: 0,
@@ -115,8 +115,8 @@ impl Plan {
 
     // The plan with one move more, at the end.
     pub fn push(self, m: Move) -> Plan
-        requires { ⌜ self .n < 4 ⌝ }
-        ensures { λ r. ⌜ (r .n ≡ self .n + 1) × (movesIn r ≡ movesIn self ++ (m ∷ [])) ⌝ }
+        requires { ⌜ (self .n < 4) × (self ≡ planOf (movesIn self)) ⌝ }
+        ensures { λ r. ⌜ r ≡ planOf (movesIn self ++ (m ∷ [])) ⌝ }
     {
         let at = self.n;
         let mut moves = self.moves;
@@ -147,7 +147,7 @@ pub struct Shifted {
 // and not in `old`; spare is the first place left over. The level's first node is `base`, and `owners` has each node's tenant and one.
 fn shift_rows(plan: Plan, base: u16, old: Row, new: Row, owners: &[u16; 8192]) -> Shifted
     requires rows { ⌜ Shiftable base old new (now owners) ⌝ }
-    requires room { ⌜ plan .n + length (levelShifts base old new) ≤ 4 ⌝ }
+    requires room { ⌜ (plan .n + length (levelShifts base old new) ≤ 4) × (plan ≡ planOf (movesIn plan)) ⌝ }
     ensures { λ r. ⌜ LevelShifted base old new (now (owners .entry)) plan r ⌝ }
 {
     let mut plan = plan;
@@ -164,7 +164,7 @@ fn shift_rows(plan: Plan, base: u16, old: Row, new: Row, owners: &[u16; 8192]) -
 // The same as `shift_rows`, but a level that stays as it was, as most do, is not searched.
 pub fn shift_level(plan: Plan, base: u16, old: Row, new: Row, owners: &[u16; 8192]) -> Shifted
     requires rows { ⌜ Shiftable base old new (now owners) ⌝ }
-    requires room { ⌜ plan .n + length (levelShifts base old new) ≤ 4 ⌝ }
+    requires room { ⌜ (plan .n + length (levelShifts base old new) ≤ 4) × (plan ≡ planOf (movesIn plan)) ⌝ }
     ensures { λ r. ⌜ LevelShifted base old new (now (owners .entry)) plan r ⌝ }
 {
     if old.same(new) {
@@ -234,7 +234,7 @@ fn plan_level(
 ) -> Planned
     requires rows { ⌜ Plannable height old new gone (now owners) ⌝ }
     requires level { ⌜ level ≤ height ⌝ }
-    requires room { ⌜ below .plan .n + length (shiftsAt height old new gone level) ≤ 4 ⌝ }
+    requires room { ⌜ (below .plan .n + length (shiftsAt height old new gone level) ≤ 4) × (below .plan ≡ planOf (movesIn (below .plan))) ⌝ }
     ensures { λ r. ⌜ LevelPlanned height old new gone level wanted (now (owners .entry)) below r ⌝ }
 {
     let base = layout::power(height - level);

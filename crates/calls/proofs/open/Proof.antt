@@ -1,10 +1,11 @@
 -- `calls::open` meets its contract: the checks decide, and a table of 4,096 entries is cleared.
-use mathlib.Core.Path.{_≡_, refl, sym, ap, _∙_}
-use mathlib.Core.List.{List, []}
+use mathlib.Core.Path.{_≡_, ap, _∙_}
 use Prim.Native.Nat.{ℕ}
 use borrow.Author.Needs.{needs}
-use lib.ListN.{length, replicate}
+use lib.ListN.{replicate}
 use Rattle.calls.specs.Step.{Outcome}
+use Rattle.calls.specs.Value.{answerOf}
+use Rattle.calls.proofs.Given.{above-zero, refusal-answer}
 use Rattle.calls.proofs.Opening.{opening-refused, opening-done, table-length}
 use Rattle.calls.proofs.open.Statement.{statement}
 use Rattle.calls.proofs.open.Tie as tie
@@ -15,7 +16,9 @@ reserve-refusal-requires c κs = search needs
 returns : tie.Need-returns
 returns c =
     let start = c .before .before .before in
-    opening-refused (start .args .height) (start .args .table .now) (c .before .reserve-refusal .result) (c .before .reserve-refusal .ensures) (c .if1 .taken)
+    let k = c .before .reserve-refusal .result in
+    let refused = opening-refused (start .args .height) (start .args .table .now) k (c .before .reserve-refusal .ensures) (c .if1 .taken) in
+    (refusal-answer k 0 (above-zero k (c .if1 .taken)) ∙ ap (λ (o : Outcome). answerOf (o .answer) 0) refused, ap (λ (o : Outcome). o .table) refused)
 
 clear-requires : tie.Need-clear-requires
 clear-requires c κs = search needs
@@ -33,7 +36,8 @@ returns-2 c =
     let none : k ≡ 0 = c .before .before .before .before .if1 .left in
     let cleared : c .before .before .clear .last .0 ≡ replicate 4096 0 =
     c .before .before .clear .ensures ∙ ap (λ (n : ℕ). replicate n 0) (table-length (start .args .height) T k checked none) in
-    ap (λ (l : List ℕ). record { answer = 0; node = 0; moves = []; table = l }) cleared ∙ opening-done (start .args .height) T k checked none
+    let done = opening-done (start .args .height) T k checked none in
+    (ap (λ (o : Outcome). answerOf (o .answer) 0) done, cleared ∙ ap (λ (o : Outcome). o .table) done)
 
 pub open-spec : {M : Type 1} → statement M
 open-spec = tie.close (tie.spec reserve-refusal-requires returns clear-requires same-length returns-2)

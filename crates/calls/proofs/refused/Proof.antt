@@ -1,10 +1,7 @@
 -- `calls::refused` meets its contract: the plan that it hands back is empty.
-use mathlib.Core.Path.{ap}
-use mathlib.Core.List.{List}
-use native.Mathlib.Omega.{arith}
+use mathlib.Core.Path.{refl}
 use borrow.Author.Needs.{needs}
-use Rattle.table.specs.declared.Move.{Move}
-use Rattle.calls.specs.Step.{Outcome}
+use Rattle.calls.proofs.Given.{refusal-answer}
 use Rattle.calls.proofs.refused.Statement.{statement}
 use Rattle.calls.proofs.refused.Tie as tie
 
@@ -12,10 +9,7 @@ none-requires : tie.Need-none-requires
 none-requires c κs = search needs
 
 returns : tie.Need-returns
-returns c = (
-  λ T. ap (λ (ms : List Move). record { answer = c .before .args .number; node = 0; moves = ms; table = T }) (c .none .ensures .1),
-  omega (arith, c .none .ensures .0),
-)
+returns c = λ T. record { answer = refusal-answer (c .before .args .number) 0 (c .before .pre); plan = c .none .ensures; table = refl }
 
 pub refused-spec : {M : Type 1} → statement M
 refused-spec = tie.close (tie.spec none-requires returns)

@@ -15,8 +15,8 @@ abbrev μ-loop : tie.MeasureT-loop
 loop-holds : tie.Need-loop-holds Inv-loop μ-loop
 loop-holds c = search needs
 
-grant-level-requires : tie.Need-grant-level-requires Inv-loop μ-loop
-grant-level-requires c κs = search needs
+perform-by-value-requires : tie.Need-perform-by-value-requires Inv-loop μ-loop
+perform-by-value-requires c κs = search needs
 
 add-tenant : tie.Need-add-tenant Inv-loop μ-loop
 add-tenant c = search needs
@@ -40,7 +40,7 @@ fill-spec =
     Inv-loop
     μ-loop
     loop-holds
-    grant-level-requires
+    perform-by-value-requires
     add-tenant
     loop-less
     loop-again

@@ -15,6 +15,7 @@ use Rattle.layout.specs.declared.Layout.{Layout}
 use Rattle.layout.proofs.Bounds.{power-le-4096}
 use Rattle.table.specs.Table.{InOrder, countsOf, in-order?}
 use Rattle.table.proofs.Order.{in-order-iff, in-order-fits}
+use Rattle.survey.proofs.Surveyed.{Surveyed, surveyed}
 use Rattle.pagemap.specs.Map.{bytesOf}
 use Rattle.pagemap.specs.Draw.{drawing}
 use Rattle.pagemap.proofs.Rows.{map-of-rows}
@@ -41,10 +42,18 @@ reserve c =
 survey-requires : tie.Need-survey-requires
 survey-requires c κs = let s = reserve (c .before) in (s .low, s .long, refl)
 
+-- what the survey shows
+shown : (c : tie.After-survey)
+    → Surveyed (c .before .before .before .before .before .before .args .height) (now (c .before .before .before .before .before .before .args .table))
+    (c .survey .last .1 .1 .0) (c .survey .result)
+shown c =
+    let s = reserve (c .before .before) in
+    surveyed _ _ (s .low) (s .long) _ _ (c .survey .ensures .0) (c .survey .ensures .1)
+
 returns-2 : tie.Need-returns-2
 returns-2 c =
     let a = c .before .before .before .before .before .before .before .before .args in
-    let out-of-order = sym (c .before .before .survey .ensures .in-order) ∙ not-true _ (c .if2 .taken) in
+    let out-of-order = sym (shown (c .before .before) .in-order) ∙ not-true _ (c .if2 .taken) in
     sym (drawn-out-of-order (a .height) (now (a .table)) (now (a .map)) (reserve (c .before .before .before .before)) out-of-order)
 
 -- past the check for order, with the arguments there
@@ -62,13 +71,13 @@ reserve-there : (c : tie.Else2) → Reserve (heightOf c) (tableOf c)
 reserve-there c = reserve (c .before .before .before .before)
 
 in-order-there : (c : tie.Else2) → in-order? (heightOf c) (tableOf c) ≡ true
-in-order-there c = sym (c .before .before .survey .ensures .in-order) ∙ not-false _ (c .if2 .left)
+in-order-there c = sym (shown (c .before .before) .in-order) ∙ not-false _ (c .if2 .left)
 
 in-order : (c : tie.Else2) → InOrder (heightOf c) (tableOf c)
 in-order c = in-order-iff (heightOf c) (tableOf c) (reserve-there c .low) .0 (in-order-there c)
 
 counts-there : (c : tie.Else2) → c .before .before .survey .result .counts .at ≡ countsOf (heightOf c) (tableOf c)
-counts-there c = c .before .before .survey .ensures .counts (not-false _ (c .if2 .left))
+counts-there c = shown (c .before .before) .counts (not-false _ (c .if2 .left))
 
 returns-3 : tie.Need-returns-3
 returns-3 c =

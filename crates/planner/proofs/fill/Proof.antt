@@ -47,9 +47,9 @@ use denote.Triple.Statement.{Contract, Triple}
 use denote.Triple.Call.{calls-at}
 use denote.Triple.Table.{entered, cited}
 use denote.Triple.Walked.{says, needs, Stays, stay-dropped, gave-slice, walkOf, goes-dropped, goes-gave-slice, Walks, ends-at, walked, walk-meets}
+use Rattle.table.specs.Plan.{no-move}
 use Rattle.table.specs.declared.Move.{Move}
 use Rattle.table.specs.declared.plan.Plan.{Plan}
-use Rattle.calls.specs.Accepted.{nobody}
 use Rattle.table.proofs.Move as Mv
 use Rattle.table.proofs.Move.Laws as Mv′
 use Rattle.table.proofs.plan.Plan as P
@@ -100,8 +100,8 @@ module _ {M : Type 1} (𝓤 : URA M) (H : Heap 𝓤) (A : Atoms 𝓤) (W : Given
   length-listed : (i : ℕ) → i ≤ n → length (listed i) ≡ length ys
   length-listed i l = length-of-front i (p .moves) ys (omega (arith, four)) (omega arith)
 
-  one-more : (i : ℕ) (r : Move) → i < n → r ≡ getD (p .moves) i nobody → set (listed i) i r ≡ listed (i + 1)
-  one-more i r less e = ap (set (listed i) i) e ∙ front-next i (p .moves) ys nobody (omega (arith, four)) (omega arith)
+  one-more : (i : ℕ) (r : Move) → i < n → r ≡ getD (p .moves) i no-move → set (listed i) i r ≡ listed (i + 1)
+  one-more i r less e = ap (set (listed i) i) e ∙ front-next i (p .moves) ys no-move (omega (arith, four)) (omega arith)
 
   abbrev Post : Val → SProp 𝓤
   Post = walkOf 𝓤 H A fill.ended stayed (fill.clauses 𝓤 H A at-mem run) .post (((κ, tt), (q, tt), tt, a, vals), tt)
@@ -162,14 +162,14 @@ module _ {M : Type 1} (𝓤 : URA M) (H : Heap 𝓤) (A : Atoms 𝓤) (W : Given
         -- the move, by value
         use0 W (raw (MoveAt 𝓤 H A at-mem run .pre (to-move-at (i .0)))) (goes (i .0) less) $
         calls-at ! (fmOf 𝓤 H (W .laws) 𝓣) (MoveAt 𝓤 H A at-mem run) known (to-move-at (i .0)) (and-then ! (val ! 19 refl) (and-then ! (val ! 13 refl) (no-more !))) (λ v.
-        answers ! tt move-at.ended (move-at.clauses 𝓤 H A at-mem run) (to-move-at (i .0)) v (λ r ws. r ≡ getD (p .moves) (i .0) nobody) (λ r ws. id⊢ 𝓤 _) (λ r ws e is-move. move ! (1 ∷ 2 ∷ []) $ drop ! $ drop ! $
+        answers ! tt move-at.ended (move-at.clauses 𝓤 H A at-mem run) (to-move-at (i .0)) v (λ r ws. r ≡ getD (p .moves) (i .0) no-move) (λ r ws. id⊢ 𝓤 _) (λ r ws e is-move. move ! (1 ∷ 2 ∷ []) $ drop ! $ drop ! $
         let typed = LL.lawful Mv.the-type Mv′.the-laws 𝓤 H A W .typed r _ is-move .0 in
         land ! (from ! (stop !)) (init ! 9 refl typed) $
         -- [what the move owns; the row; …]: its place
         assigns ! (bin ! (val ! 13 refl) (lit ! tt) (record { fits = bytes-fit })) (from ! (stop !)) (init ! 7 refl (tt, record { fits = bytes-fit })) $
         assigns ! (bin ! (load ! (from ! (fld ! refl (stop !))) (look-in ! 17 (sub ! 0 refl (whole !)))) (val ! 7 refl) tt) (from ! (stop !)) (init ! 5 refl (tt, tt)) $
         rewrite ! 5 (λ (k : ℕ). ‵ (fat fullShare tyPtr l₈ 0 (vptr b k))) (sym (place-is 6 o (i .0))) refl $
-        move ! (1 ∷ []) $ elem-out ! Mv.the-row (Is Mv.the-row) (shows 𝓤 H A Mv.the-row) (LL.vals Mv.the-type Mv′.the-laws) (LL.tells Mv.the-type Mv′.the-laws) fullShare (listed (i .0)) (i .0) nobody b o within-list (λ _.
+        move ! (1 ∷ []) $ elem-out ! Mv.the-row (Is Mv.the-row) (shows 𝓤 H A Mv.the-row) (LL.vals Mv.the-type Mv′.the-laws) (LL.tells Mv.the-type Mv′.the-laws) fullShare (listed (i .0)) (i .0) no-move b o within-list (λ _.
         -- [the entry; what it owns; the others; what the move owns; the open borrow; obs; auth; _8; …; _7; …; _6; …]
         assigns ! (of-opd ! (val ! 11 refl)) (from ! (hop ! (look ! 7 refl) (stop !))) (store-raw ! 0 refl typed) $
         move ! (0 ∷ 3 ∷ 2 ∷ []) $ elem-put ! Mv.the-row fullShare (listed (i .0)) (i .0) r (v ∷ []) b o within-list $ move ! (1 ∷ []) $ drop ! $

@@ -44,7 +44,7 @@ use Rattle.table.proofs.Move as Mv
 use Rattle.table.proofs.plan.Plan as P
 use Rattle.table.proofs.plan.Plan.Laws as P′
 use Rattle.calls.specs.Step.{step}
-use Rattle.calls.specs.Value.{callOf, valueOf}
+use Rattle.calls.specs.Value.{callOf, Gives}
 use Rattle.calls.specs.declared.Called.{Called}
 use Rattle.calls.proofs.Called as Cd
 use Rattle.calls.proofs.Called.Laws as Cd′
@@ -54,8 +54,8 @@ use Rattle.calls.proofs.Call as Cl
 use Rattle.calls.proofs.Call.Laws as Cl′
 use Rattle.planner.proofs.Report as Rp
 use Rattle.planner.proofs.Report.Laws as Rp′
-use Rattle.planner.proofs.Performing.{moves-fit, performed}
-use Rattle.planner.proofs.Walk.{empty, full, word, plan-length, entries, list, val, let-go, both, answers, last-list}
+use Rattle.planner.proofs.Performing.{moves-few, moves-fit, performed}
+use Rattle.planner.proofs.Walk.{empty, full, word, entries, list, val, let-go, answers, last-list}
 use Rattle.calls.proofs.run as ran
 use Rattle.calls.proofs.run.Symbol as ran-def
 use Rattle.calls.proofs.run.Symbol.{name as #calls·run}
@@ -112,12 +112,10 @@ module _ {M : Type 1} (𝓤 : URA M) (H : Heap 𝓤) (A : Atoms 𝓤) (W : Given
       move ! (1 ∷ 0 ∷ []) $ fjoin ! $ owned ! u16 (Is u16) (uint-makes 𝓤 H A W w16) h _ (refl, h-fits) $ fjoin ! $ move ! (1 ∷ 0 ∷ []) $ join ! $ frame ! $ done !
 
   -- `run` has handed back r, at the table T′
-  module _ (r : Called) (T′ : List ℕ) (is : Is Cd.the-row r (LL.vals Cd.the-type Cd′.the-laws r)) (met : (valueOf r T′ ≡ step h (x .now) (callOf c (length (y .now)))) × (r .plan .n ≤ 4)) where
+  module _ (r : Called) (T′ : List ℕ) (is : Is Cd.the-row r (LL.vals Cd.the-type Cd′.the-laws r))
+      (met : Gives (step h (x .now) (callOf c (length (y .now)))) r T′) where
     is-plan : Is P.the-row (r .plan) (LL.vals P.the-type P′.the-laws (r .plan))
     is-plan = LL.owed Cd.the-type Cd′.the-laws r _ is .1 .0
-
-    four : length (r .plan .moves) ≡ 4
-    four = plan-length (r .plan) is-plan
 
     abbrev vp : Val
     vp = LL.val P.the-type P′.the-laws (r .plan)
@@ -127,7 +125,7 @@ module _ {M : Type 1} (𝓤 : URA M) (H : Heap 𝓤) (A : Atoms 𝓤) (W : Given
 
     goes-fill : ent 𝓤 (sep 𝓤 (A .lft κ′ q′) (sem 𝓤 H A (MutSlice (named 1) κ′ Mv.the-row .own y (vy ∷ [])))) (Fill 𝓤 H A mem run .pre to-fill)
     goes-fill =
-        qed W (‵ (flft κ′ q′) ∷ ‵ (MutSlice (named 1) κ′ Mv.the-row .own y (vy ∷ [])) ∷ []) ∵ says ! (met .1, moves-fit h c (x .now) (length (y .now)) r T′ four met) $
+        qed W (‵ (flft κ′ q′) ∷ ‵ (MutSlice (named 1) κ′ Mv.the-row .own y (vy ∷ [])) ∷ []) ∵ says ! (moves-few h c (x .now) (length (y .now)) r T′ met, moves-fit h c (x .now) (length (y .now)) r T′ met) $
         nothing ! $ move ! (1 ∷ 0 ∷ []) $ join ! $ frame ! $ nothing ! $ move ! (1 ∷ 0 ∷ []) $ fjoin ! $ owned ! P.the-row (Is P.the-row) (LL.makes P.the-type P′.the-plain 𝓤 H A) (r .plan) _ is-plan $ fjoin ! $ done !
 
     abbrev report : Report
@@ -142,7 +140,7 @@ module _ {M : Type 1} (𝓤 : URA M) (H : Heap 𝓤) (A : Atoms 𝓤) (W : Given
     exits M′ e len len′ =
         qed W ((‵ (flft κ q) ⊛ ‵ ftrue) ∷ (‵ (flft κ′ q′) ⊛ ‵ ftrue) ∷ ‵ (finally u16 (x .name) T′) ∷ ‵ (finally Mv.the-row (y .name) M′) ∷ []) ∵
         suffices ! _ (ends-at 𝓤 H A perform.ended stayed (perform.clauses 𝓤 H A mem run) W (((κ, (κ′, tt)), (q, (q′, tt)), tt, a, vals), tt) (LL.val Rp.the-type Rp′.the-laws report) report (tt, (T′, (M′, (tt, tt)))) (tt, (len, (len′, (tt, tt))))) $
-        says ! (performed h c (x .now) (y .now) r T′ four met M′ e) $ split ! $ move ! (0 ∷ 2 ∷ []) $ join ! $ frame ! $
+        says ! (performed h c (x .now) (y .now) r T′ met M′ e) $ split ! $ move ! (0 ∷ 2 ∷ []) $ join ! $ frame ! $
         -- [true; the last table; the last list]
         nothing ! $ fjoin ! $ move ! (2 ∷ 0 ∷ []) $ fjoin ! $ move ! (1 ∷ 0 ∷ []) $ fjoin ! $ nothing ! $ fjoin ! $
         owned ! Rp.the-row (Is Rp.the-row) (LL.makes Rp.the-type Rp′.the-plain 𝓤 H A) report _ is-report $ move ! (1 ∷ 0 ∷ []) $ done !
@@ -190,7 +188,7 @@ module _ {M : Type 1} (𝓤 : URA M) (H : Heap 𝓤) (A : Atoms 𝓤) (W : Given
       -- [a token; the other; what the list's borrow owns; what the table's borrow owns; _12; …]
       move ! (0 ∷ 3 ∷ []) $ use2 W (raw (Run 𝓤 H A mem run .pre to-run)) goes-run $
       calls-at ! (fmOf 𝓤 H (W .laws) 𝓣) (Run 𝓤 H A mem run) known-run to-run (and-then ! (val ! 25 refl) (and-then ! (val ! 11 refl) (and-then ! (val ! 9 refl) (and-then ! (val ! 19 refl) (no-more !))))) (λ v.
-      answers ! tt ran.ended (ran.clauses 𝓤 H A mem run) to-run v (λ r ws. (valueOf r (ws .1 .0) ≡ step h (x .now) (callOf c (length (y .now)))) × (r .plan .n ≤ 4)) (λ r ws. both 𝓤 _ _) (λ r ws met is. drop ! $
+      answers ! tt ran.ended (ran.clauses 𝓤 H A mem run) to-run v (λ r ws. Gives (step h (x .now) (callOf c (length (y .now)))) r (ws .1 .0)) (λ r ws. id⊢ 𝓤 _) (λ r ws met is. drop ! $
       land ! (from ! (stop !)) (init ! 18 refl (LL.lawful Cd.the-type Cd′.the-laws 𝓤 H A W .typed r _ is .0)) $
       rewrite ! 18 (λ (u : Val). ‵ (fat fullShare Cd′.mir l₅ 0 u)) (ap only (LL.tells Cd.the-type Cd′.the-laws r _ is)) refl $
       fsplit ! $ drop ! $ last-list ! (λ len. move ! (1 ∷ []) $ drop ! $ fills r (ws .1 .0) (subst (Is Cd.the-row r) (LL.tells Cd.the-type Cd′.the-laws r _ is) is) met 𝓣 known-fill l₀ l₁ l₂ l₃ l₄ l₅ l₆ l₇ l₈ l₉ l₁₀ l₁₁ l₁₂ len))))))))))))))))

@@ -1,6 +1,6 @@
 -- `perform_by_value` meets its contract: a list of four entries is as good as one of more.
-use mathlib.Core.Path.{_∙_}
 use borrow.Author.Needs.{needs}
+use Rattle.calls.proofs.Given.{gives-same}
 use Rattle.planner.proofs.ByValue.{four-enough}
 use Rattle.planner.proofs.perform_by_value.Statement.{statement}
 use Rattle.planner.proofs.perform_by_value.Tie as tie
@@ -24,8 +24,7 @@ returns-2 : tie.Need-returns-2
 returns-2 c =
     let x = c .before .before .before .before in
     let a = x .before .before .args in
-    let done = c .before .before .perform-on-four .ensures in
-    (done .0 ∙ four-enough (a .height) (a .table .now) (a .call) (a .entries) (x .if1 .left), done .1)
+    gives-same (c .before .before .perform-on-four .ensures) (four-enough (a .height) (a .table .now) (a .call) (a .entries) (x .if1 .left))
 
 pub perform-by-value-spec : {M : Type 1} → statement M
 perform-by-value-spec = tie.close (tie.spec run-requires same-length returns perform-on-four-requires same-length-2 returns-2)

@@ -43,12 +43,12 @@ use denote.Triple.Statement.{Contract, Triple}
 use denote.Triple.Call.{calls-at}
 use denote.Triple.Table.{entered, cited}
 use denote.Triple.Walked.{says, Stays, stay-dropped, gave-slice, walkOf, goes-dropped, goes-gave-slice, Walks, ends-at, walked, walk-meets}
+use Rattle.table.specs.Plan.{no-move}
 use Rattle.table.specs.declared.Move.{Move}
 use Rattle.table.proofs.Move as Mv
 use Rattle.table.proofs.Move.Laws as Mv′
 use Rattle.table.proofs.plan.Plan as P
 use Rattle.table.proofs.plan.Plan.Laws as P′
-use Rattle.calls.specs.Accepted.{nobody}
 use Rattle.calls.specs.declared.Called.{Called}
 use Rattle.calls.proofs.Called as Cd
 use Rattle.calls.proofs.Called.Laws as Cd′
@@ -81,12 +81,12 @@ Perform 𝓤 H A mem run = tripleOf 𝓤 H A perform.signature (perform.spec �
 
 -- the list before the call
 abbrev unused : List Move
-unused = replicate 4 nobody
+unused = replicate 4 no-move
 
 is-unused : Is Four unused (valueOf unused ∷ [])
 is-unused =
-    let zero-fits : Is Mv.the-row nobody (LL.vals Mv.the-type Mv′.the-laws nobody) = LL.owes Mv.the-type Mv′.the-laws nobody ((refl, lit< tt), ((refl, lit< tt), ((refl, lit< tt), tt))) in
-    (replicate 4 (LL.val Mv.the-type Mv′.the-laws nobody), ((refl, refl), (zero-fits, (zero-fits, (zero-fits, (zero-fits, tt))))))
+    let zero-fits : Is Mv.the-row no-move (LL.vals Mv.the-type Mv′.the-laws no-move) = LL.owes Mv.the-type Mv′.the-laws no-move ((refl, lit< tt), ((refl, lit< tt), ((refl, lit< tt), tt))) in
+    (replicate 4 (LL.val Mv.the-type Mv′.the-laws no-move), ((refl, refl), (zero-fits, (zero-fits, (zero-fits, (zero-fits, tt))))))
 
 room-for-four : Room Mv.the-row 4
 room-for-four = (lit< tt, lit< tt)
@@ -155,7 +155,7 @@ module _ {M : Type 1} (𝓤 : URA M) (H : Heap 𝓤) (A : Atoms 𝓤) (W : Given
         exits =
             qed W (‵ (flft κ q) ∷ ‵ ftrue ∷ ‵ (finally u16 (x .name) T′) ∷ []) ∵
             suffices ! _ (ends-at 𝓤 H A on-four.ended stayed (on-four.clauses 𝓤 H A at-mem run) W (((κ, tt), (q, tt), tt, a, vals), tt) vd called (tt, (T′, (tt, tt))) (tt, (len, (tt, tt)))) $
-            says ! (by-value h c (x .now) unused refl r T′ M′ len′ met) $ join ! $ frame ! $ nothing ! $ nothing ! $ fjoin ! $ move ! (1 ∷ 0 ∷ []) $ fjoin ! $ nothing ! $ fjoin ! $
+            says ! (by-value h c (x .now) r T′ M′ met) $ join ! $ frame ! $ nothing ! $ nothing ! $ fjoin ! $ move ! (1 ∷ 0 ∷ []) $ fjoin ! $ nothing ! $ fjoin ! $
             owned ! Cd.the-row (Is Cd.the-row) (LL.makes Cd.the-type Cd′.the-plain 𝓤 H A) called _ is-called $ move ! (1 ∷ 0 ∷ []) $ done !
 
       -- from the call of `perform` on: the lifetime is ended, and the array taken back
@@ -203,7 +203,7 @@ module _ {M : Type 1} (𝓤 : URA M) (H : Heap 𝓤) (A : Atoms 𝓤) (W : Given
       land ! (from ! (stop !)) (init ! 15 refl (LL.lawful Rp.the-type Rp′.the-laws 𝓤 H A W .typed r _ is .0)) $
       rewrite ! 15 (λ (u : Val). ‵ (fat fullShare Rp′.mir l₆ 0 u)) (ap only (LL.tells Rp.the-type Rp′.the-laws r _ is)) refl $
       fsplit ! $ drop ! $ last-list ! (λ len. move ! (1 ∷ []) $ last-list ! (λ len′. move ! (1 ∷ []) $ drop ! $
-      takes l₅ r (ws .1 .0) (ws .1 .1 .0) (subst (Is Rp.the-row r) (LL.tells Rp.the-type Rp′.the-laws r _ is) is) len len′ met 𝓣 α γ l₀ l₁ l₂ l₃ l₄ l₆ l₇ l₈ l₉ l₁₀ l₁₁ l₁₂ (LL.val Mv.the-type Mv′.the-laws nobody))))))))))))))))))))
+      takes l₅ r (ws .1 .0) (ws .1 .1 .0) (subst (Is Rp.the-row r) (LL.tells Rp.the-type Rp′.the-laws r _ is) is) len len′ met 𝓣 α γ l₀ l₁ l₂ l₃ l₄ l₆ l₇ l₈ l₉ l₁₀ l₁₁ l₁₂ (LL.val Mv.the-type Mv′.the-laws no-move))))))))))))))))))))
 
 module _ {M : Type 1} (𝓤 : URA M) (H : Heap 𝓤) (A : Atoms 𝓤) (W : Given 𝓤 H A) (mem : Memory → SProp 𝓤) (run : Routine → Fun 𝓤) (𝓣 : Tables 𝓤 H) (known : Triple 𝓤 (𝓣 .C #planner·perform) (Perform 𝓤 H A mem run)) where
   on-four-walks : Walks 𝓤 H A on-four.ended stayed (WpFn 𝓤 H (𝓣 .C) (𝓣 .Λ) code.function) (on-four.clauses 𝓤 H A mem run)

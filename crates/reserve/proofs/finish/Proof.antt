@@ -1,7 +1,12 @@
 -- `reserve::finish` meets its contract: only an answer 0 writes.
 use mathlib.Core.Path.{_≡_, sym, _∙_}
 use native.Mathlib.Omega.{arith}
+use Prim.Native.Nat.{ℕ}
+use lib.ListN.{length}
+use Rattle.table.specs.Plan.{movesIn}
 use Rattle.calls.specs.Value.{numberOf, valueOf}
+use Rattle.calls.proofs.Carried.{length-of-mapped}
+use Rattle.reserve.proofs.Counts.{count-some}
 use Rattle.reserve.proofs.Reports.{report-refused, report-done}
 use borrow.Author.Needs.{needs}
 use Rattle.reserve.proofs.finish.Statement.{statement}
@@ -13,18 +18,21 @@ number-requires c κs = search needs
 node-requires : tie.Need-node-requires
 node-requires c κs = search needs
 
-move-count-requires : tie.Need-move-count-requires
-move-count-requires c κs = search needs
-
 cast-count : tie.Need-cast-count
 cast-count c = search needs
+
+-- the array has four entries, so the count is that of the moves
+counted : (start : tie.Start) → start .args .called .plan .n ≡ length (movesIn (start .args .called .plan))
+counted start =
+    let long : _≡_ {A = ℕ} (length (start .args .called .plan .moves)) 4 = search length-of-mapped in
+    count-some (start .args .called .plan .moves) (start .args .called .plan .n) long (start .pre .1 .1)
 
 returns : tie.Need-returns
 returns c =
     let a = c .before .before .before .before .before .before .before .args in
     let numbered = c .before .before .before .before .number in
     report-refused (valueOf (a .called) (a .nodes .now)) (a .table .now) (a .moves .now) _ (numbered .ensures) (c .before .before .before .node .ensures)
-    (c .before .move-count .ensures .0) (λ z. omega (arith, c .if1 .taken, numbered .ensures ∙ z))
+    (counted (c .before .before .before .before .before .before .before)) (λ z. omega (arith, c .if1 .taken, numbered .ensures ∙ z))
 
 -- past the test the answer is 0
 accepted : (x : tie.Else1) → numberOf (x .before .before .before .before .before .before .before .args .called .answer) ≡ 0
@@ -35,12 +43,14 @@ accepted x =
 encode-requires : tie.Need-encode-requires
 encode-requires c κs =
     let x = c .before in
-    (x .before .before .before .before .before .before .before .pre .0, x .before .before .before .before .before .before .before .pre .1 .table (accepted x))
+    let pre = x .before .before .before .before .before .before .before .pre in
+    (pre .0, pre .1 .0 .table (accepted x))
 
 put-moves-requires : tie.Need-put-moves-requires
 put-moves-requires c κs =
     let x = c .before .before .before .before .before in
-    x .before .before .before .before .before .before .before .pre .1 .moves (accepted x)
+    let pre = x .before .before .before .before .before .before .before .pre in
+    (pre .1 .1, pre .1 .0 .moves (accepted x))
 
 same-length : tie.Need-same-length
 same-length c = search needs
@@ -51,9 +61,10 @@ same-length-2 c = search needs
 returns-2 : tie.Need-returns-2
 returns-2 c =
     let x = c .before .before .before .before .before .before .before .before in
-    let a = x .before .before .before .before .before .before .before .args in
+    let start = x .before .before .before .before .before .before .before in
+    let a = start .args in
     report-done (valueOf (a .called) (a .nodes .now)) (a .table .now) (a .moves .now) _ (sym (accepted x)) (x .before .before .before .node .ensures)
-    (x .before .move-count .ensures .0) (accepted x) _ _ (c .before .before .before .before .before .before .encode .ensures) (c .before .before .put-moves .ensures)
+    (counted start) (accepted x) _ _ (c .before .before .before .before .before .before .encode .ensures) (c .before .before .put-moves .ensures)
 
 pub finish-spec : {M : Type 1} → statement M
 finish-spec =
@@ -61,7 +72,6 @@ finish-spec =
     (tie.spec
     number-requires
     node-requires
-    move-count-requires
     cast-count
     returns
     encode-requires

@@ -33,12 +33,12 @@ returns c =
     let x = c .before .before .before in
     let named = c .before .number .ensures in
     let d = x .before .before .decode .ensures in
-    (open-answer (x .before .before .before .before .before .before .args .height) (x .«open» .result) d (kept x) (x .«open» .ensures) named, open-refused (x .before .before .before .before .before .before .args .height) (x .«open» .result) d (kept x) (x .«open» .ensures) named (c .if1 .taken))
+    (open-answer (x .before .before .before .before .before .before .args .height) (x .«open» .result) d (kept x) (x .«open» .ensures .0) (x .«open» .ensures .1) named, open-refused (x .before .before .before .before .before .before .args .height) (x .«open» .result) d (kept x) (x .«open» .ensures .0) (x .«open» .ensures .1) named (c .if1 .taken))
 
 encode-requires : tie.Need-encode-requires
 encode-requires c κs =
     let x = c .before .before .before .before .before in
-    open-finishes (x .before .before .before .before .before .before .args .height) (x .«open» .result) (x .before .before .decode .ensures) (kept x) (x .«open» .ensures) (c .before .before .before .number .ensures) (c .before .before .if1 .left)
+    open-finishes (x .before .before .before .before .before .before .args .height) (x .«open» .result) (x .before .before .decode .ensures) (kept x) (x .«open» .ensures .0) (x .«open» .ensures .1) (c .before .before .before .number .ensures) (c .before .before .if1 .left)
 
 same-length-2 : tie.Need-same-length-2
 same-length-2 c = search needs
@@ -49,7 +49,7 @@ returns-2 c =
     let named = c .before .before .before .before .before .before .number .ensures in
     let zero = c .before .before .before .before .before .if1 .left in
     let d = x .before .before .decode .ensures in
-    (sym zero ∙ open-answer (x .before .before .before .before .before .before .args .height) (x .«open» .result) d (kept x) (x .«open» .ensures) named, c .before .before .encode .ensures ∙ open-done (x .before .before .before .before .before .before .args .height) (x .«open» .result) d (kept x) (x .«open» .ensures) named zero)
+    (sym zero ∙ open-answer (x .before .before .before .before .before .before .args .height) (x .«open» .result) d (kept x) (x .«open» .ensures .0) (x .«open» .ensures .1) named, c .before .before .encode .ensures ∙ open-done (x .before .before .before .before .before .before .args .height) (x .«open» .result) d (kept x) (x .«open» .ensures .0) (x .«open» .ensures .1) named zero)
 
 pub reserve-open-spec : {M : Type 1} → statement M
 reserve-open-spec =

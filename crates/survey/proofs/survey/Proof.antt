@@ -1,20 +1,28 @@
 -- `survey::survey` meets its contract: what it hands to `ordered` is what is to be known of a table whose nodes are all in the tree.
 use mathlib.Core.Path.{_≡_, sym, ap, _∙_}
-use mathlib.Core.Bool.{true, false≢true}
+use mathlib.Core.Bool.{true}
 use mathlib.Core.List.{List}
 use Prim.Native.Nat.{ℕ}
 use native.Mathlib.Omega.{arith}
 use borrow.Author.Needs.{needs}
 use borrow.Author.Tests.{not-true, not-false}
 use denote.Ref.{now}
-use Rattle.table.specs.Owners.{ownersFrom, levelCounts}
-use Rattle.survey.specs.Survey.{Gathered}
-use Rattle.survey.proofs.Gathered.{past-tree-not-in-order, counts-if-in-order}
+use Rattle.table.specs.Owners.{storedIf, levelCounts}
+use Rattle.survey.specs.Survey.{inside, ownersFound, Gathered}
+use Rattle.survey.proofs.Surveyed.{found-past, found-inside}
 use Rattle.survey.proofs.survey.Statement.{statement}
 use Rattle.survey.proofs.survey.Tie as tie
 
 owners-requires : tie.Need-owners-requires
 owners-requires c κs = search needs
+
+-- the owners were lent as zeros
+stored : (c : tie.After-owners)
+    → c .owners .last .1 .1 .0 ≡ ownersFound (c .before .before .before .args .height) (now (c .before .before .before .args .table))
+stored c =
+    let start = c .before .before .before in
+    let T = now (start .args .table) in
+    c .owners .ensures .1 ∙ ap (λ (o : List ℕ). storedIf (inside (start .args .height) T) o T) (start .pre .2)
 
 none-requires : tie.Need-none-requires
 none-requires c κs = search needs
@@ -22,12 +30,9 @@ none-requires c κs = search needs
 returns : tie.Need-returns
 returns c =
     let a = c .before .before .before .before .before .args in
+    let T = now (a .table) in
     let past = sym (c .before .before .owners .ensures .0) ∙ not-true _ (c .before .if1 .taken) in
-    record {
-      in-order = past-tree-not-in-order (a .height) (now (a .table)) (omega arith) past;
-      counts = λ e. absurd (false≢true e);
-      owners = λ e. absurd (false≢true e);
-    }
+    (found-past (a .height) T (c .none .result .at) (omega arith) past (c .none .ensures), stored (c .before .before))
 
 level-counts-requires : tie.Need-level-counts-requires
 level-counts-requires c κs = search needs
@@ -44,7 +49,7 @@ gathered c cs counted =
       low = omega arith;
       tenants = omega arith;
       below = sym (owners .ensures .0) ∙ all-below;
-      owners = owners .ensures .1 all-below ∙ ap (λ (o : List ℕ). ownersFrom o 0 (now (start .args .table))) (start .pre .2);
+      owners = stored (c .before) ∙ rw (sym (owners .ensures .0) ∙ all-below);
       counts = counted;
     }
 
@@ -54,11 +59,7 @@ ordered-requires c κs = gathered (c .before .before .before) (c .before .level-
 returns-2 : tie.Need-returns-2
 returns-2 c =
     let g = gathered (c .before .before .before .before) (c .before .before .level-counts .result) (c .before .before .level-counts .ensures) in
-    record {
-      in-order = c .ordered .ensures;
-      counts = λ e. counts-if-in-order g (sym (c .ordered .ensures) ∙ e);
-      owners = λ e. g .owners;
-    }
+    (found-inside g (c .ordered .result) (c .ordered .ensures), stored (c .before .before .before .before .before))
 
 pub survey-spec : {M : Type 1} → statement M
 survey-spec =

@@ -7,17 +7,16 @@ use lib.ListN.{length, set, length-set}
 use Rattle.table.specs.Table.{nodeAt, countsOf, InOrder}
 use Rattle.table.specs.Owners.{ownersOf}
 use Rattle.table.specs.Plan.{movesIn}
+use Rattle.table.specs.declared.plan.Planned.{Planned}
 use Rattle.table.proofs.Order.{in-order-iff}
 use Rattle.table.proofs.Written.{written-length}
 use Rattle.calls.specs.Changes.{ReleasePlannable, ReleasePlanned}
 use Rattle.calls.proofs.Changing.{release-by-nobody, release-by-holder, of-looked, of-table}
-use Rattle.calls.proofs.Changed.{release-plannable, release-tenants, release-value}
+use Rattle.calls.proofs.Changed.{release-plannable, release-tenants, release-gives}
+use Rattle.calls.proofs.Given.{above-zero, gives-same}
 use borrow.Author.Needs.{needs}
 use Rattle.calls.proofs.change.give_up.Statement.{statement}
 use Rattle.calls.proofs.change.give_up.Tie as tie
-
-above-zero : (n : ℕ) → ¬ (n ≡ 0) → 0 < n
-above-zero n ne = omega arith
 
 -- ---- what is known where the tenant holds a block
 
@@ -25,22 +24,33 @@ abbrev started : tie.Else1 → tie.Start
 started x = x .before .before .before
 
 order : (x : tie.Else1) → InOrder (started x .args .height) (started x .args .table .now)
-order x = in-order-iff (started x .args .height) (started x .args .table .now) (started x .pre .0 .height) .0 (started x .pre .1 .in-order)
+order x =
+    let start = started x in
+    in-order-iff (start .args .height) (start .args .table .now) (start .pre .0 .height) .0 (start .pre .1 .in-order)
 
 holds : (x : tie.Else1) → 0 < nodeAt (started x .args .table .now) (started x .args .tenant)
 holds x = above-zero _ (x .if1 .left)
 
-plannable : (x : tie.Else1) → ReleasePlannable (started x .args .height) (countsOf (started x .args .height) (started x .args .table .now)) (nodeAt (started x .args .table .now) (started x .args .tenant))
-    (ownersOf 8192 (started x .args .table .now))
+-- what the planner asks and gives at a state, of the counts and the owners of the table
+abbrev Asked : tie.Start → List ℕ → List ℕ → Type 0
+Asked start cs o = ReleasePlannable (start .args .height) cs (nodeAt (start .args .table .now) (start .args .tenant)) o
+
+abbrev Given : tie.Start → Planned → List ℕ → List ℕ → Type 0
+Given start r cs o = ReleasePlanned (start .args .height) cs (nodeAt (start .args .table .now) (start .args .tenant)) o r
+
+plannable : (x : tie.Else1)
+    → Asked (started x) (countsOf (started x .args .height) (started x .args .table .now)) (ownersOf 8192 (started x .args .table .now))
 plannable x =
     let start = started x in
-    release-plannable (start .args .height) (start .args .table .now) (start .pre .0 .height) (start .pre .0 .entries) (order x) (start .args .tenant) (start .pre .0 .tenant) (holds x)
+    let ready = start .pre .0 in
+    release-plannable (start .args .height) (start .args .table .now) (ready .height) (ready .entries) (order x) (start .args .tenant) (ready .tenant)
+    (holds x)
 
-planned : (y : tie.After-plan-release) → ReleasePlanned (started (y .before) .args .height) (countsOf (started (y .before) .args .height) (started (y .before) .args .table .now))
-    (nodeAt (started (y .before) .args .table .now) (started (y .before) .args .tenant)) (ownersOf 8192 (started (y .before) .args .table .now)) (y .plan-release .result)
+planned : (y : tie.After-plan-release) → let start = started (y .before) in
+    Given start (y .plan-release .result) (countsOf (start .args .height) (start .args .table .now)) (ownersOf 8192 (start .args .table .now))
 planned y =
     let start = started (y .before) in
-    of-table (λ cs o. ReleasePlanned (start .args .height) cs (nodeAt (start .args .table .now) (start .args .tenant)) o (y .plan-release .result)) (start .pre .1) (y .plan-release .ensures)
+    of-table (Given start (y .plan-release .result)) (start .pre .1) (y .plan-release .ensures)
 
 -- ---- the needs
 
@@ -58,12 +68,12 @@ returns c =
     let start = c .before .before .before .before in
     let a = start .args in
     let T = a .table .now in
-    (c .refused .ensures .0 T ∙ release-by-nobody (a .height) T (a .tenant) (start .pre .1 .in-order) (c .before .if1 .taken), c .refused .ensures .1)
+    gives-same (c .refused .ensures T) (release-by-nobody (a .height) T (a .tenant) (start .pre .1 .in-order) (c .before .if1 .taken))
 
 plan-release-requires : tie.Need-plan-release-requires
 plan-release-requires c κs =
     let start = started c in
-    of-looked (λ cs o. ReleasePlannable (start .args .height) cs (nodeAt (start .args .table .now) (start .args .tenant)) o) (start .pre .1) (plannable c)
+    of-looked (Asked start) (start .pre .1) (plannable c)
 
 mul-table : tie.Need-mul-table
 mul-table c = search needs
@@ -76,14 +86,17 @@ carry-out-requires c κs =
     let y = c .before .before in
     let x = y .before in
     let start = started x in
-    release-tenants (start .args .height) (start .args .table .now) (start .pre .0 .height) (start .pre .0 .entries) (order x) (start .args .tenant) (start .pre .0 .tenant) (holds x)
-    (y .plan-release .result) (planned y)
+    let ready = start .pre .0 in
+    release-tenants (start .args .height) (start .args .table .now) (ready .height) (ready .entries) (order x) (start .args .tenant) (ready .tenant)
+    (holds x) (y .plan-release .result) (planned y)
 
 same-length : tie.Need-same-length
 same-length c =
     let y = c .before .before .before .before .before in
     let a = started (y .before) .args in
-    ap length (c .before .before .carry-out .ensures) ∙ written-length (set (a .table .now) (a .tenant) 0) (movesIn (y .plan-release .result .plan)) ∙ length-set (a .table .now) (a .tenant) 0
+    ap length (c .before .before .carry-out .ensures)
+    ∙ written-length (set (a .table .now) (a .tenant) 0) (movesIn (y .plan-release .result .plan))
+    ∙ length-set (a .table .now) (a .tenant) 0
 
 returns-2 : tie.Need-returns-2
 returns-2 c =
@@ -93,12 +106,11 @@ returns-2 c =
     let h = start .args .height in
     let T = start .args .table .now in
     let t = start .args .tenant in
-    let r = y .plan-release .result in (
-      ap (λ (l : List ℕ). record { answer = 0; node = nodeAt T t; moves = movesIn (r .plan); table = l }) (c .before .before .carry-out .ensures)
-          ∙ release-value h T (start .pre .0 .height) (start .pre .0 .entries) (order x) t (start .pre .0 .tenant) (holds x) r (planned y)
-          ∙ release-by-holder h T t (start .pre .1 .in-order) (x .if1 .left),
-      rw (planned y .count) (plannable x .plannable .few),
-    )
+    let ready = start .pre .0 in
+    let done = c .before .before .carry-out .ensures in
+    gives-same
+    (release-gives h T (ready .height) (ready .entries) (order x) t (ready .tenant) (holds x) (y .plan-release .result) (planned y) done)
+    (release-by-holder h T t (start .pre .1 .in-order) (x .if1 .left))
 
 pub give-up-spec : {M : Type 1} → statement M
 give-up-spec =

@@ -6,16 +6,16 @@ use Prim.Native.Nat.{ℕ, _+_, _^_, _≤_, _<_}
 use native.Mathlib.Omega.{arith}
 use borrow.Author.Tests.{leb-true, leb-false, not-true, not-false}
 use lib.Dec.{leb}
-use lib.ListN.{set}
 use lib.Pow.{pow-mono}
 use Rattle.layout.specs.Layout.{pages}
 use Rattle.table.specs.Table.{nodeAt, countsOf, in-order?, InOrder}
 use Rattle.table.proofs.Order.{in-order-iff, in-order-fits}
 use Rattle.table.specs.Owners.{ownersOf}
-use Rattle.table.specs.Plan.{movesIn}
+use Rattle.table.specs.declared.plan.Planned.{Planned}
 use Rattle.calls.specs.Changes.{GrantPlannable, GrantPlanned}
 use Rattle.calls.proofs.Changing.{grant-to-holder, grant-without-room, grant-with-room, of-looked, of-table}
-use Rattle.calls.proofs.Changed.{grant-plannable, grant-tenants, grant-value}
+use Rattle.calls.proofs.Given.{above-zero, gives-same}
+use Rattle.calls.proofs.Changed.{grant-plannable, grant-tenants, grant-gives}
 use borrow.Author.Needs.{needs}
 use Rattle.calls.proofs.change.grant.Statement.{statement}
 use Rattle.calls.proofs.change.grant.Tie as tie
@@ -24,32 +24,44 @@ use Rattle.calls.proofs.change.grant.Tie as tie
 counted-fits : (h : ℕ) (T : List ℕ) → h ≤ 12 → in-order? h T ≡ true → pages (countsOf h T) ≤ 4096
 counted-fits h T low e = omega (arith, in-order-fits h T low (in-order-iff h T low .0 e), pow-mono low)
 
-above-zero : (n : ℕ) → ¬ (n ≡ 0) → 0 < n
-above-zero n ne = omega arith
-
 -- ---- what is known where the tenant holds nothing and there is room
 
 abbrev started : tie.Else2 → tie.Start
 started x = x .before .before .before .before .before
 
 order : (x : tie.Else2) → InOrder (started x .args .height) (started x .args .table .now)
-order x = in-order-iff (started x .args .height) (started x .args .table .now) (started x .pre .0 .height) .0 (started x .pre .1 .1 .in-order)
+order x =
+    let start = started x in
+    in-order-iff (start .args .height) (start .args .table .now) (start .pre .0 .height) .0 (start .pre .1 .1 .in-order)
 
 nothing : (x : tie.Else2) → nodeAt (started x .args .table .now) (started x .args .tenant) ≡ 0
 nothing x = x .before .before .if1 .left
 
-room : (x : tie.Else2) → pages (countsOf (started x .args .height) (started x .args .table .now)) + 2 ^ started x .args .level ≤ 2 ^ started x .args .height
+room : (x : tie.Else2)
+    → pages (countsOf (started x .args .height) (started x .args .table .now)) + 2 ^ started x .args .level ≤ 2 ^ started x .args .height
 room x = leb-true _ _ (rw (started x .pre .1 .1 .counts) at (sym (x .before .has-room .ensures) ∙ not-false _ (x .if2 .left)))
 
-plannable : (x : tie.Else2) → GrantPlannable (started x .args .height) (countsOf (started x .args .height) (started x .args .table .now)) (started x .args .level) (ownersOf 8192 (started x .args .table .now))
+-- what the planner asks and gives at a state, of the counts and the owners of the table
+abbrev Asked : tie.Start → List ℕ → List ℕ → Type 0
+Asked start cs o = GrantPlannable (start .args .height) cs (start .args .level) o
+
+abbrev Given : tie.Start → Planned → List ℕ → List ℕ → Type 0
+Given start r cs o = GrantPlanned (start .args .height) cs (start .args .level) o r
+
+plannable : (x : tie.Else2)
+    → Asked (started x) (countsOf (started x .args .height) (started x .args .table .now)) (ownersOf 8192 (started x .args .table .now))
 plannable x =
     let start = started x in
-    grant-plannable (start .args .height) (start .args .table .now) (start .pre .0 .height) (start .pre .0 .entries) (order x) (start .args .tenant) (start .args .level)
-    (start .pre .0 .tenant) (nothing x) (start .pre .1 .0) (room x)
+    let a = start .args in
+    let ready = start .pre .0 in
+    grant-plannable (a .height) (a .table .now) (ready .height) (ready .entries) (order x) (a .tenant) (a .level) (ready .tenant) (nothing x)
+    (start .pre .1 .0) (room x)
 
-planned : (y : tie.After-plan-grant) → GrantPlanned (started (y .before) .args .height) (countsOf (started (y .before) .args .height) (started (y .before) .args .table .now)) (started (y .before) .args .level)
-    (ownersOf 8192 (started (y .before) .args .table .now)) (y .plan-grant .result)
-planned y = of-table (λ cs o. GrantPlanned (started (y .before) .args .height) cs (started (y .before) .args .level) o (y .plan-grant .result)) (started (y .before) .pre .1 .1) (y .plan-grant .ensures)
+planned : (y : tie.After-plan-grant) → let start = started (y .before) in
+    Given start (y .plan-grant .result) (countsOf (start .args .height) (start .args .table .now)) (ownersOf 8192 (start .args .table .now))
+planned y =
+    let start = started (y .before) in
+    of-table (Given start (y .plan-grant .result)) (start .pre .1 .1) (y .plan-grant .ensures)
 
 -- ---- the needs
 
@@ -68,7 +80,7 @@ returns c =
     let a = start .args in
     let T = a .table .now in
     let holds : 0 < nodeAt T (a .tenant) = above-zero _ (c .before .if1 .taken) in
-    (c .refused .ensures .0 T ∙ grant-to-holder (a .height) T (a .tenant) (a .level) (start .pre .1 .1 .in-order) holds, c .refused .ensures .1)
+    gives-same (c .refused .ensures T) (grant-to-holder (a .height) T (a .tenant) (a .level) (start .pre .1 .1 .in-order) holds)
 
 has-room-requires : tie.Need-has-room-requires
 has-room-requires c κs =
@@ -90,20 +102,23 @@ returns-2 c =
     let looked = start .pre .1 .1 in
     let full : leb (pages (countsOf (a .height) T) + 2 ^ a .level) (2 ^ a .height) ≡ false =
     rw (looked .counts) at (sym (tested .has-room .ensures) ∙ not-true _ (c .before .if2 .taken)) in
-    (c .refused2 .ensures .0 T ∙ grant-without-room (a .height) T (a .tenant) (a .level) (looked .in-order) (tested .before .if1 .left) (leb-false _ _ full), c .refused2 .ensures .1)
+    let refused = grant-without-room (a .height) T (a .tenant) (a .level) (looked .in-order) (tested .before .if1 .left) (leb-false _ _ full) in
+    gives-same (c .refused2 .ensures T) refused
 
 plan-grant-requires : tie.Need-plan-grant-requires
 plan-grant-requires c κs =
     let start = started c in
-    of-looked (λ cs o. GrantPlannable (start .args .height) cs (start .args .level) o) (start .pre .1 .1) (plannable c)
+    of-looked (Asked start) (start .pre .1 .1) (plannable c)
 
 carry-out-requires : tie.Need-carry-out-requires
 carry-out-requires c κs =
     let y = c .before .before in
     let x = y .before in
     let start = started x in
-    grant-tenants (start .args .height) (start .args .table .now) (start .pre .0 .height) (start .pre .0 .entries) (order x) (start .args .tenant) (start .args .level)
-    (start .pre .0 .tenant) (nothing x) (start .pre .1 .0) (room x) (y .plan-grant .result) (planned y)
+    let a = start .args in
+    let ready = start .pre .0 in
+    grant-tenants (a .height) (a .table .now) (ready .height) (ready .entries) (order x) (a .tenant) (a .level) (ready .tenant) (nothing x)
+    (start .pre .1 .0) (room x) (y .plan-grant .result) (planned y)
 
 mul-table : tie.Need-mul-table
 mul-table c = search needs
@@ -125,12 +140,10 @@ returns-3 c =
     let l = start .args .level in
     let ready = start .pre .0 in
     let low = start .pre .1 .0 in
-    let r = y .plan-grant .result in (
-      ap (λ (l′ : List ℕ). record { answer = 0; node = r .node; moves = movesIn (r .plan); table = set l′ t (r .node) }) (c .before .before .carry-out .ensures)
-          ∙ grant-value h T (ready .height) (ready .entries) (order x) t l (ready .tenant) (nothing x) low (room x) r (planned y)
-          ∙ grant-with-room h T t l (start .pre .1 .1 .in-order) (nothing x) (room x),
-      rw (planned y .count) (plannable x .plannable .few),
-    )
+    let done = c .before .before .carry-out .ensures in
+    gives-same
+    (grant-gives h T (ready .height) (ready .entries) (order x) t l (ready .tenant) (nothing x) low (room x) (y .plan-grant .result) (planned y) done)
+    (grant-with-room h T t l (start .pre .1 .1 .in-order) (nothing x) (room x))
 
 pub grant-spec : {M : Type 1} → statement M
 grant-spec =

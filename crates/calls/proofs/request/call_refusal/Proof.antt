@@ -20,15 +20,15 @@ four h n t m = length-checks h n ++ list-checks t m
 tenant-requires : tie.Need-tenant-requires
 tenant-requires c κs = search needs
 
-refusal-requires : tie.Need-refusal-requires
-refusal-requires c κs = search needs
+first-of-four-requires : tie.Need-first-of-four-requires
+first-of-four-requires c κs = search needs
 
 returns : tie.Need-returns
 returns c =
     let x = c .before in
     let a = x .before .before .args in
     let t = x .before .tenant .result in
-    let asked = x .refusal .ensures in
+    let asked = x .first-of-four .ensures in
     rw (validity-parts (a .height) (a .call) (a .entries), ← x .before .tenant .ensures)
     (asked ∙ sym (first-stands (four (a .height) (a .length) t (a .entries)) (size-checks (a .height) (callOf (a .call) 0)) (λ z. c .if1 .taken (asked ∙ z))))
 
@@ -37,7 +37,7 @@ size-refusal-requires c κs =
     let x = c .before in
     let a = x .before .before .args in
     let later = check 2 (not (eqb (a .length) 4096)) ∷ list-checks (x .before .tenant .result) (a .entries) in
-    ltb-false 12 (a .height) (not-applied 1 (ltb 12 (a .height)) later (omega arith) (sym (x .refusal .ensures) ∙ c .if1 .left))
+    ltb-false 12 (a .height) (not-applied 1 (ltb 12 (a .height)) later (omega arith) (sym (x .first-of-four .ensures) ∙ c .if1 .left))
 
 returns-2 : tie.Need-returns-2
 returns-2 c =
@@ -46,8 +46,8 @@ returns-2 c =
     let t = x .before .tenant .result in
     rw (validity-parts (a .height) (a .call) (a .entries), ← x .before .tenant .ensures)
     (c .size-refusal .ensures
-    ∙ sym (first-after-none (four (a .height) (a .length) t (a .entries)) (size-checks (a .height) (callOf (a .call) 0)) (omega arith, (omega arith, (omega arith, (omega arith, tt)))) (sym (x .refusal .ensures) ∙ c .before .if1 .left)))
+    ∙ sym (first-after-none (four (a .height) (a .length) t (a .entries)) (size-checks (a .height) (callOf (a .call) 0)) (omega arith, (omega arith, (omega arith, (omega arith, tt)))) (sym (x .first-of-four .ensures) ∙ c .before .if1 .left)))
 
 pub call-refusal-spec : {M : Type 1} → statement M
 call-refusal-spec =
-    tie.close (tie.spec tenant-requires refusal-requires returns size-refusal-requires returns-2)
+    tie.close (tie.spec tenant-requires first-of-four-requires returns size-refusal-requires returns-2)

@@ -10,7 +10,7 @@ use Rattle.table.specs.declared.Move.{Move}
 use Rattle.calls.proofs.Carried.{length-of-mapped}
 use Rattle.reserve.specs.Image.{imageOf, numbersOf, moveBytes}
 use Rattle.reserve.proofs.Images.{put-more}
-use Rattle.reserve.proofs.Counts.{take-own-length}
+use Rattle.reserve.proofs.Counts.{count-some, take-own-length}
 use Rattle.reserve.proofs.image.put_moves.Statement.{statement}
 use Rattle.reserve.proofs.image.put_moves.Tie as tie
 
@@ -20,26 +20,23 @@ Inv-loop list₀ n moves k₀ list k = (k ≤ n) × (list ≡ moveBytes (take k 
 abbrev μ-loop : tie.MeasureT-loop
 μ-loop list₀ n moves k₀ list k = n - k
 
-move-count-requires : tie.Need-move-count-requires Inv-loop μ-loop
-move-count-requires c κs = search needs
-
 loop-holds : tie.Need-loop-holds Inv-loop μ-loop
 unfolding imageOf numbersOf
 loop-holds c = (zero-le, refl, refl)
 
 mul-put-move : tie.Need-mul-put-move Inv-loop μ-loop
-mul-put-move c = record { fits = omega (arith, c .before .before .before .before .move-count .ensures .1) }
+mul-put-move c = record { fits = omega (arith, c .before .before .before .before .before .pre .0) }
 
 mul-put-move-2 : tie.Need-mul-put-move-2 Inv-loop μ-loop
-mul-put-move-2 c = record { fits = omega (arith, c .before .before .before .before .move-count .ensures .1) }
+mul-put-move-2 c = record { fits = omega (arith, c .before .before .before .before .before .pre .0) }
 
 array-copy-out-put-move : tie.Need-array-copy-out-put-move Inv-loop μ-loop
-array-copy-out-put-move c = omega (arith, c .before .before .before .before .move-count .ensures .1)
+array-copy-out-put-move c = omega (arith, c .before .before .before .before .before .pre .0)
 
 put-move-requires : tie.Need-put-move-requires Inv-loop μ-loop
 put-move-requires c κs =
     let at-loop = c .before .before .before in
-    omega (arith, at-loop .before .before .move-count .ensures .1, at-loop .loop .inv .2, at-loop .before .before .before .before .pre)
+    omega (arith, at-loop .before .before .before .pre, at-loop .loop .inv .2)
 
 add-k : tie.Need-add-k Inv-loop μ-loop
 add-k c = omega arith
@@ -50,13 +47,13 @@ loop-less c = omega arith
 loop-again : tie.Need-loop-again Inv-loop μ-loop
 loop-again c =
     let at-loop = c .before .before .before .before .before .before in
-    let start = at-loop .before .before .before .before in
+    let start = at-loop .before .before .before in
     let called = c .before .before .put-move in
     let k = at-loop .loop .k in
     let ms = start .args .plan .moves in
     let long : _≡_ {A = ℕ} (length (start .args .plan .moves)) 4 = search length-of-mapped in
-    let in-plan : k < length ms = omega (arith, at-loop .before .before .move-count .ensures .1) in
-    let in-list : 6 * k + 6 ≤ length (start .args .list .now) = omega (arith, at-loop .before .before .move-count .ensures .1, start .pre) in (
+    let in-plan : k < length ms = omega (arith, start .pre .0) in
+    let in-list : 6 * k + 6 ≤ length (start .args .list .now) = omega (arith, start .pre) in (
       omega arith,
       called .ensures ∙ put-more (start .args .list .now) ms (at-loop .loop .list) k (at-loop .loop .inv .1) in-plan in-list,
       called .kept .0 ∙ at-loop .loop .inv .2,
@@ -68,11 +65,12 @@ same-length c = c .before .loop .inv .2
 returns : tie.Need-returns Inv-loop μ-loop
 returns c =
     let at-loop = c .before in
-    let counted = at-loop .before .before in
-    let a = counted .before .before .args in
+    let start = at-loop .before .before .before in
+    let a = start .args in
     let n = a .plan .n in
     let ms = a .plan .moves in
-    let all : at-loop .loop .k ≡ length (take n ms) = omega (arith, counted .move-count .ensures .0) in
+    let long : _≡_ {A = ℕ} (length (start .args .plan .moves)) 4 = search length-of-mapped in
+    let all : at-loop .loop .k ≡ length (take n ms) = omega (arith, count-some ms n long (start .pre .0)) in
     at-loop .loop .inv .1
     ∙ ap (λ (k : ℕ). moveBytes (take k ms) ++ drop (6 * k) (a .list .now)) all
     ∙ ap (λ (l : List Move). moveBytes l ++ drop (6 * length (take n ms)) (a .list .now)) (take-own-length n ms)
@@ -83,7 +81,6 @@ put-moves-spec =
     (tie.spec
     Inv-loop
     μ-loop
-    move-count-requires
     loop-holds
     mul-put-move
     mul-put-move-2

@@ -1,6 +1,7 @@
 -- `table::passes::owners` meets its contract.
 use mathlib.Core.Path.{_≡_, sym, _∙_}
-use mathlib.Core.Bool.{false≢true}
+use mathlib.Core.Bool.{Bool}
+use mathlib.Core.List.{List}
 use Prim.Native.Nat.{ℕ, suc, _*_, _^_, _≤_}
 use native.Mathlib.Nat.{pow-suc}
 use native.Mathlib.Omega.{arith}
@@ -50,12 +51,14 @@ store-requires c κs =
 returns : tie.Need-returns
 returns c =
     let tested = c .before .before .before in
-    (sym (lt-ltb (tested .any-bits .result) (2 * tested .before .power .result) (omega arith)) ∙ decides tested, λ e. c .store .ensures)
+    let below = sym (lt-ltb (tested .any-bits .result) (2 * tested .before .power .result) (omega arith)) ∙ decides tested in
+    (below, rw (← below) (c .store .ensures))
 
 returns-2 : tie.Need-returns-2
 returns-2 c =
     let tested = c .before in
-    (sym (le-ltb (tested .any-bits .result) (2 * tested .before .power .result) (omega arith)) ∙ decides tested, λ e. absurd (false≢true e))
+    let below = sym (le-ltb (tested .any-bits .result) (2 * tested .before .power .result) (omega arith)) ∙ decides tested in
+    (below, rw (← below))
 
 pub owners-spec : {M : Type 1} → statement M
 owners-spec = tie.close (tie.spec power-requires mul-limit any-bits-requires store-requires returns returns-2)

@@ -41,7 +41,7 @@ shift-level-requires c κs =
     let s = c .before .before .before .before .before in
     let l = s .args .level in
     rw (c .before .before .before .before .power .ensures, old-row-is (c .before), c .row-of2 .ensures)
-    (level-shiftable (s .pre .0) l (s .pre .1 .0), rw (level-shifts (s .pre .0) l (s .pre .1 .0)) (s .pre .1 .1))
+    (level-shiftable (s .pre .0) l (s .pre .1 .0), (rw (level-shifts (s .pre .0) l (s .pre .1 .0)) (s .pre .1 .1 .0), s .pre .1 .1 .1))
 
 abbrev start : tie.After-shift-level → tie.Start
 start c = c .before .before .before .before .before .before

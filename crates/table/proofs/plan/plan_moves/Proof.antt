@@ -17,12 +17,12 @@ none-requires : tie.Need-none-requires Inv-loop μ-loop
 none-requires c κs = search needs
 
 loop-holds : tie.Need-loop-holds Inv-loop μ-loop
-loop-holds c = planning-begins _ _ _ _ _ _ _ (c .none .ensures .0) (c .none .ensures .1) refl
+loop-holds c = planning-begins _ _ _ _ _ _ _ (c .none .ensures) refl
 
 plan-level-requires : tie.Need-plan-level-requires Inv-loop μ-loop
 plan-level-requires c κs =
     let pre = c .before .before .before .pre in
-    (pre, (c .loop-test .taken, omega (arith, room-for-level (c .before .loop .inv) (c .loop-test .taken), pre .few)))
+    (pre, (c .loop-test .taken, (omega (arith, room-for-level (c .before .loop .inv) (c .loop-test .taken), pre .few), c .before .loop .inv .whole)))
 
 add-level : tie.Need-add-level Inv-loop μ-loop
 add-level c = omega (arith, c .before .before .before .before .pre .height)

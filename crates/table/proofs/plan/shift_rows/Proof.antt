@@ -24,7 +24,7 @@ least-requires-2 : tie.Need-least-requires-2 Inv-loop μ-loop
 least-requires-2 c κs = (near-turned (c .before .pre .0 .near), c .before .pre .0 .new-fits)
 
 loop-holds : tie.Need-loop-holds Inv-loop μ-loop
-loop-holds c = shifting-begins _ _ _ _ _ _ _ (c .before .least .ensures) (c .least2 .ensures)
+loop-holds c = shifting-begins _ _ _ _ _ _ _ (c .before .before .pre .1 .1) (c .before .least .ensures) (c .least2 .ensures)
 
 abbrev start : tie.Then1 Inv-loop μ-loop → tie.Start Inv-loop μ-loop
 start c = c .before .before .before .before .before
@@ -58,7 +58,7 @@ move-from-requires c κs = left-movable c
 push-requires : tie.Need-push-requires Inv-loop μ-loop
 push-requires c κs =
     let room = room-left (turn (c .before) .loop .inv) (c .before .before .loop-test .taken) (place-there (c .before)) in
-    omega (arith, start (c .before) .pre .1)
+    (omega (arith, start (c .before) .pre .1 .0), turn (c .before) .loop .inv .whole)
 
 add-least : tie.Need-add-least Inv-loop μ-loop
 add-least c = omega arith
@@ -85,8 +85,7 @@ loop-again c =
     let t = c .before .before .before .before in
     let pushed = c .before .before .push in
     shifting-goes-on (turn t .loop .inv) (pushed .result) (c .before .least3 .result) (c .least4 .result) (t .before .loop-test .taken)
-    (place-there t) (pushed .ensures .0) (rw (c .before .before .before .move-from .ensures) at (pushed .ensures .1)) (c .before .least3 .ensures)
-    (c .least4 .ensures)
+    (place-there t) (rw (c .before .before .before .move-from .ensures) at (pushed .ensures)) (c .before .least3 .ensures) (c .least4 .ensures)
 
 returns : tie.Need-returns Inv-loop μ-loop
 returns c = shifting-ends (c .before .before .loop .inv) (inr (ltb-false (c .before .before .loop .j) no-index (c .if1 .left)))

@@ -1,11 +1,11 @@
--- `calls::request::refusal` meets its contract: what 1 and 2 decide, and else what 3 and 4 do.
+-- `calls::request::first_of_four` meets its contract: what 1 and 2 decide, and else what 3 and 4 do.
 use mathlib.Core.Path.{sym, _∙_}
 use Rattle.calls.specs.Step.{length-checks, list-checks}
 use native.Mathlib.Omega.{arith}
 use borrow.Author.Needs.{needs}
 use Rattle.calls.proofs.Checks.{first-after-none, first-stands}
-use Rattle.calls.proofs.request.refusal.Statement.{statement}
-use Rattle.calls.proofs.request.refusal.Tie as tie
+use Rattle.calls.proofs.request.first_of_four.Statement.{statement}
+use Rattle.calls.proofs.request.first_of_four.Tie as tie
 
 reserve-refusal-requires : tie.Need-reserve-refusal-requires
 reserve-refusal-requires c κs = search needs
@@ -26,5 +26,5 @@ returns-2 c =
     ∙ sym (first-after-none (length-checks (a .height) (a .length)) (list-checks (a .tenant) (a .entries)) (omega arith, (omega arith, tt))
     (sym (c .before .before .reserve-refusal .ensures) ∙ c .before .if1 .left))
 
-pub refusal-spec : {M : Type 1} → statement M
-refusal-spec = tie.close (tie.spec reserve-refusal-requires returns list-refusal-requires returns-2)
+pub first-of-four-spec : {M : Type 1} → statement M
+first-of-four-spec = tie.close (tie.spec reserve-refusal-requires returns list-refusal-requires returns-2)
