@@ -8,22 +8,27 @@ use native.Mathlib.Omega.{arith}
 use lib.ListN.{length, getD}
 use Rattle.tree.specs.Node.{level}
 use Rattle.tree.specs.Held.{Nodes, sizes}
-use Rattle.table.specs.Pairing.{levelNodes, leavers, places, Shift, pair, shiftsFrom, shifts, goes, newcomer}
+use Rattle.tree.proofs.LeftToRight.{left-of-less}
+use Rattle.table.specs.Pairing.{keep, levelNodes, leavers, places, Shift, pair, shiftsFrom, shifts, goes, newcomer}
+use Rattle.table.specs.Paired.{ListedBefore, lower-level, same-level}
 use Rattle.table.proofs.Distinct.{place-of}
 use Rattle.table.proofs.Keep.{of-leavers, in-leavers, places-and-leavers}
 use Rattle.table.proofs.Pair.{pair-from-in}
 use Rattle.table.proofs.Shifts.{Room, pairAt, of-shiftsFrom, enough-places, leaves-at, goes-in-turn}
-use Rattle.table.specs.Paired.{ListedBefore, lower-level, same-level}
-use Rattle.table.proofs.Sorted.{Sorted, Ascending, sorted-places, sorted-append, sorted-weaken, ascending-upFrom, ascending-keep, earlier-of-less}
-use Rattle.tree.proofs.LeftToRight.{left-of-less}
+use Rattle.table.proofs.Sorted.{Sorted, sorted-places, sorted-append, sorted-weaken}
+use Rattle.table.proofs.Sorted.{Ascending, ascending-upFrom, ascending-keep, earlier-of-less}
+
+-- those nodes of a level that pass a test
+level-left-to-right : (p : Nodes) (h l : ℕ) → Ascending (keep p (levelNodes h l))
+level-left-to-right p h l = ascending-keep p (levelNodes h l) (ascending-upFrom (2 ^ (h - l)) (2 ^ (h - l)))
 
 pub leavers-left-to-right : (h : ℕ) (S N : Nodes) (l : ℕ) → Ascending (leavers h S N l)
 unfolding leavers
-leavers-left-to-right h S N l = ascending-keep (λ n. S n && not (N n)) (levelNodes h l) (ascending-upFrom (2 ^ (h - l)) (2 ^ (h - l)))
+leavers-left-to-right h S N l = level-left-to-right (λ n. S n && not (N n)) h l
 
 pub places-left-to-right : (h : ℕ) (S N : Nodes) (l : ℕ) → Ascending (places h S N l)
 unfolding places
-places-left-to-right h S N l = ascending-keep (λ n. N n && not (S n)) (levelNodes h l) (ascending-upFrom (2 ^ (h - l)) (2 ^ (h - l)))
+places-left-to-right h S N l = level-left-to-right (λ n. N n && not (S n)) h l
 
 -- n is the j-th leaver of level l, and goes to the j-th place
 record Turn (h : ℕ) (S N : Nodes) (l n : ℕ) : Type 0 where

@@ -33,7 +33,7 @@ pub record Taken (t : ℕ) (T T′ : List ℕ) (n : ℕ) : Type 0 where
 pub record MoversPaired (h : ℕ) (N : Nodes) (t : ℕ) (T T′ : List ℕ) : Type 0 where
   -- the movers take nodes that nobody stays on
   pub on-places : (u : ℕ) → Mover t T T′ u → Place N t T T′ (nodeAt T′ u)
-  -- left to right by old node, those nodes left to right: of two movers of one level, whose old node is left of the other's, so is its new node
+  -- and on each level keep their order: whose old node is left of another's has its new node left of the other's
   pub keep-order : (u v : ℕ) → Mover t T T′ u → Mover t T T′ v → level h (nodeAt T u) ≡ level h (nodeAt T v)
       → LeftOf h (nodeAt T u) (nodeAt T v) → LeftOf h (nodeAt T′ u) (nodeAt T′ v)
 
@@ -59,6 +59,6 @@ pub data ListedBefore (h m n : ℕ) : Type 0 where
   lower-level : level h m < level h n → ListedBefore h m n
   same-level : level h m ≡ level h n → LeftOf h m n → ListedBefore h m n
 
--- of two entries of the list the upper one is to be listed before the other; d stands for entries past the end
+-- of any two entries the upper one is of that kind; d is what stands for entries past the end
 abbrev pub ListInOrder : ℕ → Move → List Move → Type 0
 ListInOrder h d ms = (i j : ℕ) → i < j → j < length ms → ListedBefore h (getD ms i d .from) (getD ms j d .from)
