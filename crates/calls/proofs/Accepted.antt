@@ -17,11 +17,13 @@ use Rattle.layout.specs.Change.{oneMore, oneFewer}
 use Rattle.layout.proofs.Theorems.{layout-has-counts}
 use Rattle.table.specs.Table.{nodeAt, occupied, countsOf, in-order?, InOrder}
 use Rattle.table.specs.Pairing.{moved, movesOf}
+use Rattle.table.specs.Paired.{MoversPaired, MoversFill, NewcomerPaired, ListInOrder}
 use Rattle.table.proofs.Occupied.{occupied-within}
 use Rattle.table.proofs.Order.{in-order-iff, in-order-counts}
 use Rattle.table.proofs.Moved.{Movable, moved-nothing, moved-level, moved-holds, moved-stays}
 use Rattle.table.proofs.Newcomer.{granted-newcomer, granted-others, newcomer-level, newcomer-above-zero}
 use Rattle.table.proofs.Moves.{Moves, moves-in-list, move-of, one-move-each}
+use Rattle.table.proofs.Paired.{moves-in-order, movers-paired, movers-fill, newcomer-paired}
 use Rattle.calls.specs.Call.{Call, grant-level, grant-pages, release, tenantOf, levelFor}
 use Rattle.calls.specs.Step.{Outcome, first, reserve-checks, check, validity, holdings, checks, granted, released, refused, step}
 use Rattle.calls.specs.History.{Book}
@@ -33,6 +35,7 @@ use Rattle.calls.proofs.Kept.{Kept}
 use Rattle.calls.proofs.Struck.{node-after-set, node-beside-set}
 use Rattle.calls.proofs.Granting.{grant-movable, grant-one-more, t-in-table, grant-in-order, grant-occupies, new-sizes}
 use Rattle.calls.proofs.Releasing.{release-movable, release-in-order, release-occupies, counts-before, level-in-fewer, fewer-counts-fit}
+use Rattle.calls.proofs.Releasing.{fewer-sizes}
 use Rattle.calls.proofs.Cases.{both-zero, Granted, Released, Case, by-grant, by-release, by-refusal, case}
 use Rattle.calls.proofs.Box.{grants-do-not-release}
 
@@ -90,9 +93,11 @@ module _ {h : ℕ} {N : Nodes} {T₁ : List ℕ} (M : Movable h N T₁) (T : Lis
     same-level = λ u ne p. ap (level h) (after u ne) ∙ moved-level M u (rw (before u ne) p) ∙ ap (level h) (before u ne);
     still-holds = λ u ne p. rw (after u ne) (moved-holds M u (rw (before u ne) p));
     still-nothing = λ u ne z. after u ne ∙ moved-nothing M u (before u ne ∙ z);
+    movers-paired = subst (λ (A : Nodes). MoversPaired h A t T (o .table)) (sym (fun-ext occupies)) (movers-paired M t T (o .table) out before after);
     listed = λ i q. rw moves (listed-shifted _ (moves-in-list M nobody i (rw (← moves) q)));
     all-listed = λ u ne p d. rw moves (move-of M nobody u (rw (before u ne) p) (λ e. d (after u ne ∙ e ∙ before u ne)));
     once = λ i j p q e. one-move-each M nobody i j (rw (← moves) p) (rw (← moves) q) (rw moves at e);
+    list-in-order = subst (ListInOrder h nobody) (sym moves) (moves-in-order M nobody);
   }
 
 module _ (h : ℕ) (T : List ℕ) (c : Call) (e : step h T c .answer ≡ 0) where
@@ -113,13 +118,17 @@ module _ (h : ℕ) (T : List ℕ) (c : Call) (e : step h T c .answer ≡ 0) wher
       let q = t-in-table h T B K t l (g .tenant) (g .nothing) (g .in-height) (g .fits) in
       let order = grant-in-order h T B K t l (g .tenant) (g .nothing) (g .in-height) (g .fits) in
       let occupies = grant-occupies h T B K t l (g .tenant) (g .nothing) (g .in-height) (g .fits) in
+      let o : Outcome = granted h T (layoutSet h (oneMore (countsOf h T) l)) t l in
       rw (g .outcome) (record {
-        settled = settled M T t (g .nothing) (λ u ne. refl) (granted h T _ t l) (granted-others M G t q (g .nothing)) refl order occupies;
+        settled = settled M T t (g .nothing) (λ u ne. refl) o (granted-others M G t q (g .nothing)) refl order occupies;
         sized = λ m. ap (λ (A : Nodes). sizes h A m) (fun-ext occupies) ∙ new-sizes h T B K t l (g .tenant) (g .nothing) (g .in-height) (g .fits) m;
         had-nothing = g .nothing;
         newcomer = granted-newcomer M G t q (g .nothing);
         on-level = newcomer-level M G;
         a-node = newcomer-above-zero M G;
+        newcomer-paired = subst (λ (A : Nodes). NewcomerPaired h A t T (o .table)) (sym (fun-ext occupies))
+            (newcomer-paired M t T (o .table) (g .nothing) (λ u ne. refl) (granted-others M G t q (g .nothing)) G
+            (granted-newcomer M G t q (g .nothing)));
       })
 
   after-release : Released h T c → AfterRelease h T (tenantOf c) (step h T c)
@@ -139,12 +148,16 @@ module _ (h : ℕ) (T : List ℕ) (c : Call) (e : step h T c .answer ≡ 0) wher
       ∙ sym (count-one-more fewer x (level-in-fewer h T B K t (r .tenant) (r .holds)) m)
       ∙ ap (λ (cs : List ℕ). getD cs m 0) (counts-before h T B K t (r .tenant) (r .holds))
       ∙ sym (in-order-counts h T (K .height) (K .in-order) m) in
+      let o : Outcome = released h T (layoutSet h fewer) t in
       rw (r .outcome) (record {
-        settled = settled M T t out (node-beside-set T t 0) (released h T _ t) (λ u ne. refl) refl order occupies;
+        settled = settled M T t out (node-beside-set T t 0) o (λ u ne. refl) refl order occupies;
         sized = λ m. ap (λ (A : Nodes). sizes h A m + one-if (eqb m x)) (fun-ext occupies) ∙ one-fewer m;
         given-up = refl;
         a-node = r .holds;
         struck-out = moved-nothing M t out;
+        movers-fill = subst (λ (A : Nodes). MoversFill A t T (o .table)) (sym (fun-ext occupies))
+            (movers-fill M t T (o .table) out (node-beside-set T t 0) (λ u ne. refl)
+            (fewer-sizes h T B K t (r .tenant) (r .holds)));
       })
 
 abbrev levelAsked : Call → ℕ

@@ -8,6 +8,7 @@ use lib.ListN.{length, getD}
 use Rattle.tree.specs.Node.{level}
 use Rattle.tree.specs.Held.{Within, Legal, Safe, sizes, one-if}
 use Rattle.table.specs.Table.{nodeAt, occupied}
+use Rattle.table.specs.Paired.{MoversPaired, MoversFill, NewcomerPaired, ListInOrder}
 use Rattle.table.specs.declared.Move.{Move}
 use Rattle.calls.specs.Call.{Call, tenantOf}
 use Rattle.calls.specs.Step.{Outcome, step}
@@ -38,12 +39,16 @@ pub record Settled (h t : ℕ) (T : List ℕ) (o : Outcome) : Type 0 where
   pub same-level : (u : ℕ) → ¬ (u ≡ t) → 0 < nodeAt T u → level h (nodeAt (o .table) u) ≡ level h (nodeAt T u)
   pub still-holds : (u : ℕ) → ¬ (u ≡ t) → 0 < nodeAt T u → 0 < nodeAt (o .table) u
   pub still-nothing : (u : ℕ) → ¬ (u ≡ t) → nodeAt T u ≡ 0 → nodeAt (o .table) u ≡ 0
+  -- the movers take nodes of the new set that nobody stays on, and on each level they keep their order
+  pub movers-paired : MoversPaired h (occupied (o .table)) t T (o .table)
   -- the moves are exactly those tenants whose node differs, each once
   pub listed : (i : ℕ) → i < length (o .moves) → Shifted t T (o .table) (getD (o .moves) i nobody)
   pub all-listed : (u : ℕ) → ¬ (u ≡ t) → 0 < nodeAt T u → ¬ (nodeAt (o .table) u ≡ nodeAt T u)
       → (i : ℕ) × (i < length (o .moves)) × (getD (o .moves) i nobody .tenant ≡ u)
   pub once : (i j : ℕ) → i < length (o .moves) → j < length (o .moves)
       → getD (o .moves) i nobody .tenant ≡ getD (o .moves) j nobody .tenant → i ≡ j
+  -- the list goes by level from 0 up, then by old node left to right
+  pub list-in-order : ListInOrder h nobody (o .moves)
 
 -- a grant at level l: one more block there, and the newcomer has it and the answer names it
 pub record AfterGrant (h : ℕ) (T : List ℕ) (t l : ℕ) (o : Outcome) : Type 0 where
@@ -53,6 +58,8 @@ pub record AfterGrant (h : ℕ) (T : List ℕ) (t l : ℕ) (o : Outcome) : Type 
   pub newcomer : nodeAt (o .table) t ≡ o .node
   pub on-level : level h (o .node) ≡ l
   pub a-node : 0 < o .node
+  -- the newcomer and the movers take all the nodes that nobody stays on, and the newcomer's is right of the movers' on its level
+  pub newcomer-paired : NewcomerPaired h (occupied (o .table)) t T (o .table)
 
 -- a release: one block fewer at the level of the node given up, which the answer names
 pub record AfterRelease (h : ℕ) (T : List ℕ) (t : ℕ) (o : Outcome) : Type 0 where
@@ -61,6 +68,8 @@ pub record AfterRelease (h : ℕ) (T : List ℕ) (t : ℕ) (o : Outcome) : Type 
   pub given-up : o .node ≡ nodeAt T t
   pub a-node : 0 < o .node
   pub struck-out : nodeAt (o .table) t ≡ 0
+  -- the movers take all the nodes that nobody stays on
+  pub movers-fill : MoversFill (occupied (o .table)) t T (o .table)
 
 -- demand 2: what an accepted call c does to the table T at height h
 pub record Demand2 (h : ℕ) (T : List ℕ) (c : Call) : Type 0 where

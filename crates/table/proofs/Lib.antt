@@ -8,6 +8,9 @@ pub mod Occupied
 pub mod Moved
 pub mod Newcomer
 pub mod Moves
+pub mod Sorted
+pub mod Turns
+pub mod Paired
 pub mod Written
 pub mod Used
 pub mod Tabulate

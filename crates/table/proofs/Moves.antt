@@ -20,7 +20,7 @@ use Rattle.table.proofs.Occupied.{Has, owner-has, occupied-above-zero}
 use Rattle.table.proofs.Moved.{Movable, room-of, moved-at}
 
 -- the shift s of a table, with the tenant that it moves
-abbrev moveBy : List ℕ → Shift → Move
+abbrev pub moveBy : List ℕ → Shift → Move
 moveBy T s = record { tenant = ownerOf T (s .from); from = s .from; to = s .to }
 
 -- m takes a tenant from its node to another

@@ -1,6 +1,7 @@
 -- the table, and who goes where
 pub mod Table
 pub mod Pairing
+pub mod Paired
 -- what the passes over a table and the planner compute
 pub mod Owners
 pub mod Plan

@@ -2,6 +2,7 @@ pub mod Highest
 pub mod Align
 pub mod Coordinates
 pub mod Under
+pub mod LeftToRight
 pub mod Bridge
 pub mod Sets
 pub mod Sum
