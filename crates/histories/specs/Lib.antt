@@ -1,0 +1,2 @@
+-- histories of lent bytes, through the C door
+pub mod Bytes
