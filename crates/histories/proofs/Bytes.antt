@@ -135,7 +135,7 @@ same-report h B l o₁ o₂ r₁ r₂ image₁ image₂ list₁ list₂ image₁
 same-report h B l o₁ o₂ r₁ r₂ image₁ image₂ list₁ list₂ image₁′ image₂′ list₁′ list₂′ p₁ p₂ (SameFate.room a b m k n) =
     room (p₁ .answer ∙ a) (p₂ .answer ∙ b) (rw (p₁ .count) m) (rw (p₂ .count) k) n
 
-boxes-of-tables : (h : ℕ) (H₁ H₂ : History h) (T₁ T₂ answers₁ answers₂ : List ℕ) → T₁ ≡ tableAfter h H₁ → T₂ ≡ tableAfter h H₂
+pub boxes-of-tables : (h : ℕ) (H₁ H₂ : History h) (T₁ T₂ answers₁ answers₂ : List ℕ) → T₁ ≡ tableAfter h H₁ → T₂ ≡ tableAfter h H₂
     → answers₁ ≡ answersOf h H₁ → answers₂ ≡ answersOf h H₂ → Boxes h T₁ T₂ (bookOf (H₁ .calls) answers₁) (bookOf (H₂ .calls) answers₂)
 boxes-of-tables h H₁ H₂ T₁ T₂ answers₁ answers₂ t₁ t₂ a₁ a₂ = rw (t₁, t₂, a₁, a₂) (demand-3 h H₁ H₂)
 
