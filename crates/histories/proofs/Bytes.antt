@@ -17,7 +17,7 @@ use Rattle.reserve.specs.Image.{imageOf, tableOf}
 use Rattle.reserve.specs.Door.{imageAfter, Reported, entriesIn, CalledOn}
 use Rattle.reserve.specs.declared.Outcome.{Outcome}
 use Rattle.reserve.proofs.Images.{table-of-image}
-use Rattle.histories.specs.Bytes.{Led, opened, called, bookOf, SameReport, no-room, room, Picture, BytesDemand3}
+use Rattle.histories.specs.Bytes.{Led, opened, called, bookOf, SameReport, no-room, room, BytesOfBox, BytesDemand3}
 
 -- ---- one call more at the end
 
@@ -35,20 +35,20 @@ answers-of-one-more h T (d ∷ cs) c = ap (λ (ns : List ℕ). step h T d .answe
 -- ---- one call over bytes
 
 -- the image is that of the table T
-record Pictures (image T : List ℕ) : Type 0 where
+record IsImage (image T : List ℕ) : Type 0 where
   table : tableOf image ≡ T
   bytes : image ≡ imageOf T
 
-pictures-table : (T : List ℕ) → length T ≡ 4096 → Pictures (imageOf T) T
-pictures-table T e = record { table = table-of-image T e; bytes = refl }
+image-of : (T : List ℕ) → length T ≡ 4096 → IsImage (imageOf T) T
+image-of T e = record { table = table-of-image T e; bytes = refl }
 
 -- the image after an outcome is that of its table, if a refusal leaves the table
-image-after : (o : Result) (image T : List ℕ) → Pictures image T → length (o .table) ≡ 4096 → (¬ (o .answer ≡ 0) → o .table ≡ T)
-    → Pictures (imageAfter o image) (o .table)
+image-after : (o : Result) (image T : List ℕ) → IsImage image T → length (o .table) ≡ 4096 → (¬ (o .answer ≡ 0) → o .table ≡ T)
+    → IsImage (imageAfter o image) (o .table)
 image-after o image T p e kept = go (eqb (o .answer) 0) refl
   where
-    go : (b : Bool) → eqb (o .answer) 0 ≡ b → Pictures (imageAfter o image) (o .table)
-    go true z = rw z (pictures-table (o .table) e)
+    go : (b : Bool) → eqb (o .answer) 0 ≡ b → IsImage (imageAfter o image) (o .table)
+    go true z = rw z (image-of (o .table) e)
     go false z = rw (z, kept (eqb-false (o .answer) 0 z)) p
 
 -- ---- a whole history over bytes
@@ -57,7 +57,7 @@ image-after o image T p e kept = go (eqb (o .answer) 0) refl
 record Follows (h : ℕ) (image : List ℕ) (calls : List Call) (answers : List ℕ) : Type 0 where
   lent : List ℕ
   accepted : open-reserve h lent .answer ≡ 0
-  pictured : Pictures image (tableFrom h (open-reserve h lent .table) calls)
+  imaged : IsImage image (tableFrom h (open-reserve h lent .table) calls)
   answered : answers ≡ answersFrom h (open-reserve h lent .table) calls
 
 abbrev history : {h : ℕ} {image answers : List ℕ} {calls : List Call} → Follows h image calls answers → History h
@@ -71,7 +71,7 @@ follows-opening h image image′ e f =
     record {
       lent = tableOf image;
       accepted = e;
-      pictured = rw (f, e) (pictures-table (open-reserve h (tableOf image) .table) (kept-by-history h H .entries));
+      imaged = rw (f, e) (image-of (open-reserve h (tableOf image) .table) (kept-by-history h H .entries));
       answered = refl;
     }
 
@@ -96,19 +96,19 @@ module _ (h : ℕ) (image list image′ list′ answers : List ℕ) (calls : Lis
       let H : History h = record { lent = F .lent; opened = F .accepted; calls = calls ++ c ∷ [] } in
       sym (ap length (table-of-one-more h T₀ calls c)) ∙ kept-by-history h H .entries
 
-  pictures-next : Pictures image′ (step h T c .table)
-  pictures-next =
+  image-next : IsImage image′ (step h T c .table)
+  image-next =
       let kept = refused-leaves-table h T c (case h T (sound h T _ (kept-by-history h (history F))) c) in
-      rw (on .table, F .pictured .table) (image-after (step h T c) image T (F .pictured) entries kept)
+      rw (on .table, F .imaged .table) (image-after (step h T c) image T (F .imaged) entries kept)
 
   answered-next : r .answer ≡ step h T c .answer
-  answered-next = on .answer ∙ ap (λ (S : List ℕ). step h S c .answer) (F .pictured .table)
+  answered-next = on .answer ∙ ap (λ (S : List ℕ). step h S c .answer) (F .imaged .table)
 
   follows-call : Follows h image′ (calls ++ call (entriesIn list) ∷ []) (answers ++ r .answer ∷ [])
   follows-call = record {
     lent = F .lent;
     accepted = F .accepted;
-    pictured = rw (table-of-one-more h T₀ calls c) pictures-next;
+    imaged = rw (table-of-one-more h T₀ calls c) image-next;
     answered = ap₂ (λ (ns : List ℕ) (n : ℕ). ns ++ n ∷ []) (F .answered) answered-next ∙ sym (answers-of-one-more h T₀ calls c);
   }
 
@@ -118,12 +118,12 @@ follows (called {call = call} led x on) = follows-call _ _ _ _ _ _ _ call _ (fol
 
 -- ---- the bytes of one box
 
-picture : (h : ℕ) (image answers : List ℕ) (calls : List Call) → Follows h image calls answers → Picture h image
-picture h image answers calls F = record {
-  bytes = F .pictured .bytes ∙ ap imageOf (sym (F .pictured .table));
+bytes-of-box : (h : ℕ) (image answers : List ℕ) (calls : List Call) → Follows h image calls answers → BytesOfBox h image
+bytes-of-box h image answers calls F = record {
+  image-of-table = F .imaged .bytes ∙ ap imageOf (sym (F .imaged .table));
   next-table = λ call list image′ list′ r on.
-      pictures-next h image list image′ list′ answers calls call r F on .table
-      ∙ ap (λ (T : List ℕ). step h T (call (entriesIn list)) .table) (sym (F .pictured .table));
+      image-next h image list image′ list′ answers calls call r F on .table
+      ∙ ap (λ (T : List ℕ). step h T (call (entriesIn list)) .table) (sym (F .imaged .table));
 }
 
 -- ---- two boxes
@@ -135,20 +135,19 @@ same-report h B l o₁ o₂ r₁ r₂ image₁ image₂ list₁ list₂ image₁
 same-report h B l o₁ o₂ r₁ r₂ image₁ image₂ list₁ list₂ image₁′ image₂′ list₁′ list₂′ p₁ p₂ (SameFate.room a b m k n) =
     room (p₁ .answer ∙ a) (p₂ .answer ∙ b) (rw (p₁ .count) m) (rw (p₂ .count) k) n
 
-pub boxes-of-tables : (h : ℕ) (H₁ H₂ : History h) (T₁ T₂ answers₁ answers₂ : List ℕ) → T₁ ≡ tableAfter h H₁ → T₂ ≡ tableAfter h H₂
+pub boxes-of-tables : (h : ℕ) (H₁ H₂ : History h) {T₁ T₂ answers₁ answers₂ : List ℕ} → T₁ ≡ tableAfter h H₁ → T₂ ≡ tableAfter h H₂
     → answers₁ ≡ answersOf h H₁ → answers₂ ≡ answersOf h H₂ → Boxes h T₁ T₂ (bookOf (H₁ .calls) answers₁) (bookOf (H₂ .calls) answers₂)
-boxes-of-tables h H₁ H₂ T₁ T₂ answers₁ answers₂ t₁ t₂ a₁ a₂ = rw (t₁, t₂, a₁, a₂) (demand-3 h H₁ H₂)
+boxes-of-tables h H₁ H₂ t₁ t₂ a₁ a₂ = rw (t₁, t₂, a₁, a₂) (demand-3 h H₁ H₂)
 
 pub demand-3-of-bytes : BytesDemand3
 demand-3-of-bytes h image₁ image₂ answers₁ answers₂ calls₁ calls₂ led₁ led₂ =
     let F₁ = follows led₁ in
     let F₂ = follows led₂ in
-    let both = boxes-of-tables h (history F₁) (history F₂) (tableOf image₁) (tableOf image₂) answers₁ answers₂ (F₁ .pictured .table)
-    (F₂ .pictured .table) (F₁ .answered) (F₂ .answered) in
+    let both = boxes-of-tables h (history F₁) (history F₂) (F₁ .imaged .table) (F₂ .imaged .table) (F₁ .answered) (F₂ .answered) in
     record {
       boxes = both;
-      picture-one = picture h image₁ answers₁ calls₁ F₁;
-      picture-two = picture h image₂ answers₂ calls₂ F₂;
+      bytes-one = bytes-of-box h image₁ answers₁ calls₁ F₁;
+      bytes-two = bytes-of-box h image₂ answers₂ calls₂ F₂;
       same-reports = λ e call₁ call₂ list₁ list₂ image₁′ image₂′ list₁′ list₂′ r₁ r₂ on₁ on₂ l a₁ a₂ v₁ v₂ n₁ n₂.
           same-report h _ l _ _ r₁ r₂ _ _ _ _ _ _ _ _ on₁ on₂ (both .same-fate e _ _ l a₁ a₂ v₁ v₂ n₁ n₂);
     }

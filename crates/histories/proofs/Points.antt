@@ -83,7 +83,7 @@ pub demand-3-of-listings : ListingsDemand3
 demand-3-of-listings h accepted before₁ before₂ =
     let H₁ = historyOf h accepted before₁ in
     let H₂ = historyOf h accepted before₂ in
-    boxes-of-tables h H₁ H₂ _ _ _ _ refl refl (answers-of-outcomes h _ (H₁ .calls)) (answers-of-outcomes h _ (H₂ .calls))
+    boxes-of-tables h H₁ H₂ refl refl (answers-of-outcomes h _ (H₁ .calls)) (answers-of-outcomes h _ (H₂ .calls))
 
 pub promises-of-listing : PromisesOfListing
 promises-of-listing journal h accepted before after last (Reading.record-then {next = next} e more) =

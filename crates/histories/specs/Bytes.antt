@@ -37,9 +37,9 @@ pub data SameReport (h : ℕ) (B : Book) (l : ℕ) (one two : Outcome) : Type 0 
   room : one .answer ≡ 0 → two .answer ≡ 0 → one .moves ≤ 3 → two .moves ≤ 3 → ¬ NoPlacement h B l → SameReport h B l one two
 
 -- the bytes of one box
-pub record Picture (h : ℕ) (image : List ℕ) : Type 0 where
+pub record BytesOfBox (h : ℕ) (image : List ℕ) : Type 0 where
   -- they are the image of the table that they stand for, and hold nothing else
-  pub bytes : image ≡ imageOf (tableOf image)
+  pub image-of-table : image ≡ imageOf (tableOf image)
   -- after the next call they stand for the table that `step` leaves
   pub next-table : (call : ℕ → Call) (list image′ list′ : List ℕ) (r : Outcome) → CalledOn h call image list r image′ list′
       → tableOf image′ ≡ step h (tableOf image) (call (entriesIn list)) .table
@@ -48,8 +48,8 @@ pub record Picture (h : ℕ) (image : List ℕ) : Type 0 where
 pub record BoxesOfBytes (h : ℕ) (image₁ image₂ : List ℕ) (B₁ B₂ : Book) : Type 0 where
   -- demand 3's conclusion, for the tables that the bytes stand for
   pub boxes : Boxes h (tableOf image₁) (tableOf image₂) B₁ B₂
-  pub picture-one : Picture h image₁
-  pub picture-two : Picture h image₂
+  pub bytes-one : BytesOfBox h image₁
+  pub bytes-two : BytesOfBox h image₂
   -- what two requests for one level report next, where the books hold equal sizes and nothing for the two tenants
   pub same-reports : ((l : ℕ) → held B₁ l ≡ held B₂ l) → (call₁ call₂ : ℕ → Call) (list₁ list₂ image₁′ image₂′ list₁′ list₂′ : List ℕ)
       (r₁ r₂ : Outcome) → CalledOn h call₁ image₁ list₁ r₁ image₁′ list₁′ → CalledOn h call₂ image₂ list₂ r₂ image₂′ list₂′
