@@ -7,10 +7,10 @@ ghost use lib.Seq.{paste};
 ghost use Rattle.lines.specs.Ascii.{bytes as Ascii·bytes};
 ghost use Rattle.lines.specs.Decimal.{decimal as Decimal·decimal};
 ghost use Rattle.lines.specs.Line.{spaced, moveField};
-ghost use Rattle.lines.specs.Text.{textOf, Grown};
+ghost use Rattle.lines.specs.Text.{Grown, Spells};
 use table::Move;
 
-// At most 128 bytes: the first `n` of the buffer.
+// At most 128 bytes: the first `n` of the buffer. The others are 0.
 pub struct Text {
     pub n: usize,
     pub bytes: [u8; 128],
@@ -19,7 +19,7 @@ pub struct Text {
 impl Text {
     // No bytes.
     pub fn empty() -> Text
-        ensures { λ r. ⌜ (r .n ≡ 0) × (textOf r ≡ []) ⌝ }
+        ensures { λ r. ⌜ Spells r [] ⌝ }
     {
         Text {
             n: 0,

@@ -1,11 +1,11 @@
 -- `text::Text::push` meets its contract: the first n bytes and the one that is written behind them.
 use mathlib.Core.Path.{_≡_, refl}
-use Prim.Native.Nat.{ℕ}
+use Prim.Native.Nat.{ℕ, _+_}
 use native.Mathlib.Numerals.{add-one}
 use native.Mathlib.Omega.{arith}
 use borrow.Author.Needs.{needs}
 use lib.ListN.{length}
-use lib.Seq.{take-suc-set}
+use lib.Seq.{take-suc-set, drop-set-lt}
 use Rattle.lines.proofs.Arrays.{length-of-mapped}
 use Rattle.lines.proofs.text.Text.push.Statement.{statement}
 use Rattle.lines.proofs.text.Text.push.Tie as tie
@@ -23,6 +23,7 @@ returns c =
     record {
       text = rw add-one (take-suc-set (a .self .bytes) (a .self .n) (a .byte) (omega arith));
       size = refl;
+      rest = drop-set-lt (a .self .n + 1) (a .self .bytes) (a .self .n) (a .byte) (omega arith);
       short = omega arith;
     }
 
