@@ -77,16 +77,16 @@ mul-first c =
     let x = y .before in
     record {
       fits =
-          product-fits (h x) (n x) (d x) (y .power .result) (c .power2 .result) (low x) (above x) (x .before .depth .ensures) (inside x) (y .power .ensures)
-          (c .power2 .ensures);
+          product-fits (h x) (n x) (d x) (y .power .result) (c .power2 .result) (low x) (above x) (x .before .depth .ensures) (inside x)
+          (y .power .ensures) (c .power2 .ensures);
     }
 
 returns-4 : tie.Need-returns-4
 returns-4 c =
     let y = c .before in
     let x = y .before in
-    pages-by-depth (h x) (n x) (d x) (y .power .result) (c .power2 .result) (low x) (above x) (x .before .depth .ensures) (inside x) (y .power .ensures)
-    (c .power2 .ensures)
+    pages-by-depth (h x) (n x) (d x) (y .power .result) (c .power2 .result) (low x) (above x) (x .before .depth .ensures) (inside x)
+    (y .power .ensures) (c .power2 .ensures)
 
 pub reserve-node-pages-spec : {M : Type 1} → statement M
 reserve-node-pages-spec =
