@@ -1,14 +1,19 @@
 -- The C door's answer for a number at a height, in document 01's words: the pages of a node, and what is no node.
-use mathlib.Core.Path.{_≡_, refl, sym}
-use Prim.Native.Nat.{ℕ, suc, _-_, _*_, _^_, _≤_, _<_}
+use mathlib.Core.Path.{_≡_, refl, sym, ap, _∙_, subst}
+use mathlib.Core.Logic.{_⊎_, inl, inr, _↔_}
+use Prim.Native.Nat.{ℕ, suc, _+_, _-_, _*_, _^_, _≤_, _<_}
 use native.Mathlib.Omega.{arith}
+use native.Mathlib.Nat.{sub-zero}
 use native.Mathlib.Decide.{decLt, ℕ-discrete}
 use borrow.Author.Tests.{lt-ltb, le-ltb, le-leb, lt-leb, eq-eqb, ne-eqb}
 use lib.Pow.{pow-mono}
-use Rattle.tree.specs.Node.{InTree, depth, level, firstPage, pastPage}
+use Rattle.tree.specs.Node.{InTree, Under, depth, level, firstPage, pastPage, Covers}
 use Rattle.tree.proofs.Highest.{depth-highest}
-use Rattle.tree.proofs.Coordinates.{block-in-tree}
-use Rattle.reserve.specs.NodePages.{noPages, nodePages, NamesPages}
+use Rattle.tree.specs.Block.{Block, first, past, node, blockOf, Meet, Inside}
+use Rattle.tree.proofs.Align.{inside-meet, meet-cases, meet-self}
+use Rattle.tree.proofs.Coordinates.{block-in-tree, node-of-block, block-of-node}
+use Rattle.tree.proofs.Under.{under-inside, inside-under}
+use Rattle.reserve.specs.NodePages.{noPages, nodePages, AtOrUnder, NamesPages}
 
 -- ---- the cases of the definition
 
@@ -64,16 +69,61 @@ module _ (h n d first size : ℕ) (low : h ≤ 12) (above : 0 < n) (deep : d ≡
   pub pages-by-depth : size ≡ 2 ^ (h - d) → record { answer = 0; first = (n - first) * size; count = size } ≡ nodePages h n
   pages-by-depth s = rw (e, s, deep) (sym (pages-of-node h n low in-tree))
 
+-- ---- a page as a leaf
+
+-- the leaf of page p, as a block
+abbrev leaf : ℕ → Block
+leaf p = record { level = 0; index = p }
+
+leaf-in-tree : (h p : ℕ) → p < 2 ^ h → past (leaf p) ≤ 2 ^ h
+leaf-in-tree h p q = omega arith
+
+leaf-node : (h p : ℕ) → node h (leaf p) ≡ 2 ^ h + p
+leaf-node h p = ap (λ (d : ℕ). 2 ^ d + p) (sub-zero h)
+
+module _ (h n p : ℕ) (t : InTree h n) (q : p < 2 ^ h) where
+  abbrev block : Block
+  block = blockOf h n
+
+  leaf-of-meet : Meet (leaf p) block → AtOrUnder (node h (leaf p)) n
+  leaf-of-meet m = go (meet-cases (leaf p) block m)
+    where
+      go : (leaf p ≡ block) ⊎ (Inside (leaf p) block ⊎ Inside block (leaf p)) → AtOrUnder (node h (leaf p)) n
+      go (inl e) = inl (ap (node h) e ∙ node-of-block h n t)
+      go (inr (inl i)) =
+          inr (subst (Under (node h (leaf p))) (node-of-block h n t)
+          (inside-under h (leaf p) block (leaf-in-tree h p q) (block-in-tree h n t) i))
+      go (inr (inr i)) = absurd (omega (arith, i .lower))
+
+  meet-of-leaf : AtOrUnder (node h (leaf p)) n → Meet (leaf p) block
+  meet-of-leaf (inl e) =
+      let same : leaf p ≡ block = sym (block-of-node h (leaf p) (leaf-in-tree h p q)) ∙ ap (blockOf h) e in
+      subst (Meet (leaf p)) same (meet-self (leaf p))
+  meet-of-leaf (inr u) =
+      inside-meet (leaf p) block
+      (under-inside h (leaf p) block (leaf-in-tree h p q) (block-in-tree h n t)
+      (subst (Under (node h (leaf p))) (sym (node-of-block h n t)) u))
+
+  pub covers-iff-leaf : Covers h n p ↔ AtOrUnder (2 ^ h + p) n
+  covers-iff-leaf = subst (λ (m : ℕ). Covers h n p ↔ AtOrUnder m n) (leaf-node h p) (
+    λ c. leaf-of-meet (record { a-first = omega (arith, c .below); b-first = omega (arith, c .from) }),
+    λ l. let m = meet-of-leaf l in record { from = omega (arith, m .b-first); below = omega (arith, m .a-first) },
+  )
+
 -- ---- the theorem
 
 -- a node of the tree: its answer names the pages that it covers
 pub node-names-pages : (h n : ℕ) → h ≤ 12 → InTree h n → NamesPages h n (nodePages h n)
 node-names-pages h n low t = rw (pages-of-node h n low t) (record {
   done = refl;
-  covered = λ p. (λ q. record { from = q .0; below = q .1 }, λ c. (c .from, c .below));
+  covered = λ p. named-iff-covers p;
   size = refl;
   within = past-page-in-reserve h n t;
+  leaves = λ p q. let c = covers-iff-leaf h n p t q in (λ m. c .0 (named-iff-covers p .0 m), λ l. named-iff-covers p .1 (c .1 l));
 })
+  where
+    named-iff-covers : (p : ℕ) → ((firstPage h n ≤ p) × (p < pastPage h n)) ↔ Covers h n p
+    named-iff-covers p = (λ q. record { from = q .0; below = q .1 }, λ c. (c .from, c .below))
 
 -- what is no node of the tree is refused, and names no page
 pub no-node-refused : (h n : ℕ) → h ≤ 12 → ¬ InTree h n → nodePages h n ≡ noPages 7
