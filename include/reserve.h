@@ -11,21 +11,26 @@
  * Tenants are numbered 0 to 4095. Each holds at most one block, and a block is one node. Where the blocks lie depends on
  * nothing but how many are held on each level, so a grant or a release may have to move other tenants: a grant at most
  * three, a release at most four. The planner says who moves from where to where. Copying the pages is the caller's work,
- * and has to be done, from the top of the list to its end, before the next call on the same table.
+ * and has to be done, from the first of the moves to the last, before the next call on the same table. reserve_node_pages
+ * says which pages a node covers.
  *
  * WHAT IS LENT
  *
  * There is no state but the table, which is the caller's. Every function reads and writes only the bytes that it is lent,
- * only while it runs, and keeps no pointer. It allocates nothing, calls nothing, uses less than 32 KiB of stack and
- * always returns. Calls on different bytes may run at the same time; bytes that a call is lent must not be used by anybody
- * else until it returns, and the table and the list of one call must not overlap. A pointer may be null if its length is 0.
+ * only while it runs, and keeps no pointer. It allocates nothing, calls nothing but memcpy and memset, uses less than
+ * 32 KiB of stack and always returns. A pointer may be null if its length is 0.
+ *
+ * The table and the moves of one call must not overlap, nor the table and the map of reserve_draw; they may lie side by
+ * side. Until a call returns, nobody else may write any of the bytes that it is lent, or read those that it is lent to
+ * write (the pointers without const). Calls on different bytes, and calls that only read the same bytes, may run at the
+ * same time.
  *
  * BYTES
  *
  * All lengths and offsets count bytes. Numbers of two bytes have the low byte first, whatever the machine's own order:
  *
  *   table   RESERVE_TABLE_BYTES bytes: for each tenant, by number, two bytes with its node, or 0 if it holds nothing
- *   list    RESERVE_MOVE_BYTES bytes for each move: the tenant, its old node, its new node; two bytes each
+ *   moves   RESERVE_MOVE_BYTES bytes for each move: the tenant, its old node, its new node; two bytes each
  *   map     RESERVE_MAP_BYTES bytes: page i is bit i mod 8 of byte i / 8, and bit 0 weighs 1; set if a held block covers the page
  *   record  of a journal: one byte of kind and a body (RESERVE_KIND_..., below)
  *
@@ -35,23 +40,31 @@
  * numbers, those of the arguments that the function has, and the first that holds is answered. (For a journal, 16 comes
  * before 11.) A refused call changes no byte; its other results are 0 unless said otherwise.
  *
+ * THE ARCHIVE
+ *
+ * `rt staticlib reserve` writes target/staticlib/libreserve.a, and a program is linked with `cc program.c libreserve.a`. It
+ * is for x86-64 Linux: ELF, the System V calling convention, the instructions that every x86-64 processor has. It is
+ * position independent, so that shared objects can have it too. It takes memcpy and memset from the C library, or from
+ * whatever else it is linked with; all names that it defines begin with reserve_.
+ *
  * THE SMALLEST PROGRAM
  *
  *   #include <stdio.h>
  *   #include "reserve.h"
  *
  *   static uint8_t table[RESERVE_TABLE_BYTES];
- *   static uint8_t list[RESERVE_LIST_BYTES];
+ *   static uint8_t moves[RESERVE_MOVES_BYTES];
  *
  *   int main(void) {
  *       if (reserve_open(12, table, sizeof table) != RESERVE_DONE) return 1;
- *       struct reserve_outcome got = reserve_grant_pages(12, table, sizeof table, list, sizeof list, 7, 100);
+ *       struct reserve_outcome got = reserve_grant_pages(12, table, sizeof table, moves, sizeof moves, 7, 100);
  *       if (got.answer != RESERVE_DONE) return 1;
  *       for (unsigned i = 0; i < got.moves; i++) {
- *           const uint8_t *m = list + RESERVE_MOVE_BYTES * i;
+ *           const uint8_t *m = moves + RESERVE_MOVE_BYTES * i;
  *           printf("tenant %u: node %u to %u\n", m[0] + 256u * m[1], m[2] + 256u * m[3], m[4] + 256u * m[5]);
  *       }
- *       printf("tenant 7 has node %u\n", (unsigned)got.node);
+ *       struct reserve_pages has = reserve_node_pages(12, got.node);
+ *       printf("tenant 7 has node %u, %u pages from page %u on\n", (unsigned)got.node, (unsigned)has.count, (unsigned)has.first);
  *       return 0;
  *   }
  */
@@ -65,14 +78,21 @@
 extern "C" {
 #endif
 
+/* The version of this interface. Whatever changes a layout, a signature or a constant raises it: the major number, and the
+ * minor one is then 0, if programs have to be changed or compiled again; the minor number if something is only added. */
+#define RESERVE_VERSION_MAJOR 1
+#define RESERVE_VERSION_MINOR 0
+#define RESERVE_VERSION (1000 * RESERVE_VERSION_MAJOR + RESERVE_VERSION_MINOR)
+
 /* The greatest height, and the number of tenants. */
 #define RESERVE_MAX_HEIGHT 12
 #define RESERVE_TENANTS 4096
 
-/* The bytes of a table, of one move, of a list that holds the moves of any call, of a page map, and of the longest record. */
+/* The bytes of a table, of one move, of the moves that have to be lent to a grant or a release (at least), of a page map,
+ * and of the longest record. */
 #define RESERVE_TABLE_BYTES 8192
 #define RESERVE_MOVE_BYTES 6
-#define RESERVE_LIST_BYTES 24
+#define RESERVE_MOVES_BYTES 24
 #define RESERVE_MAP_BYTES 512
 #define RESERVE_RECORD_BYTES 5
 
@@ -82,22 +102,22 @@ extern "C" {
 /* What a function answers. */
 enum reserve_answer {
     RESERVE_DONE = 0,
-    RESERVE_HEIGHT = 1,        /* the height is above 12 */
-    RESERVE_TABLE = 2,         /* the table is not of 8192 bytes */
-    RESERVE_LIST = 3,          /* the list has fewer than 24 bytes */
-    RESERVE_TENANT = 4,        /* the tenant is above 4095 */
-    RESERVE_LEVEL = 5,         /* the level is above the height */
-    RESERVE_PAGES = 6,         /* the pages are more than the reserve has */
-    RESERVE_NOT_IN_ORDER = 7,  /* the table is none that this planner leaves at this height */
-    RESERVE_HOLDS = 8,         /* a grant to a tenant that holds a block */
-    RESERVE_HOLDS_NONE = 9,    /* a release by a tenant that holds none */
-    RESERVE_NO_ROOM = 10,      /* the pages held and the new block are more than the reserve has */
-    RESERVE_NO_OPEN = 11,      /* the journal is empty, or its first record is no open */
-    RESERVE_UNKNOWN_KIND = 12, /* a record of a kind that there is not */
-    RESERVE_CUT_OFF = 13,      /* the journal ends inside a record */
-    RESERVE_OPEN_AGAIN = 14,   /* an open record that is not the first */
-    RESERVE_TOO_SHORT = 15,    /* the bytes lent for a map or a record are too few */
-    RESERVE_TOO_LONG = 16      /* the journal has more than 65536 bytes */
+    RESERVE_REFUSED_HEIGHT = 1,        /* the height is above 12 */
+    RESERVE_REFUSED_TABLE_LENGTH = 2,  /* the table is not of 8192 bytes */
+    RESERVE_REFUSED_MOVES = 3,         /* fewer than 24 bytes are lent for the moves */
+    RESERVE_REFUSED_TENANT = 4,        /* the tenant is above 4095 */
+    RESERVE_REFUSED_LEVEL = 5,         /* the level is above the height */
+    RESERVE_REFUSED_PAGES = 6,         /* the pages are more than the reserve has */
+    RESERVE_REFUSED_NOT_IN_ORDER = 7,  /* the table is none that this planner leaves at this height; or a number is no node */
+    RESERVE_REFUSED_HOLDS = 8,         /* a grant to a tenant that holds a block */
+    RESERVE_REFUSED_HOLDS_NONE = 9,    /* a release by a tenant that holds none */
+    RESERVE_REFUSED_NO_ROOM = 10,      /* the pages held and the new block are more than the reserve has */
+    RESERVE_REFUSED_NO_OPEN = 11,      /* the journal is empty, or its first record is no open */
+    RESERVE_REFUSED_UNKNOWN_KIND = 12, /* a record of a kind that there is not */
+    RESERVE_REFUSED_CUT_OFF = 13,      /* the journal ends inside a record */
+    RESERVE_REFUSED_OPEN_AGAIN = 14,   /* an open record that is not the first */
+    RESERVE_REFUSED_TOO_SHORT = 15,    /* the bytes lent for a map or a record are too few */
+    RESERVE_REFUSED_TOO_LONG = 16      /* the journal has more than 65536 bytes */
 };
 
 /* The kinds of a journal's records, and the bodies that follow the byte of kind. */
@@ -113,7 +133,14 @@ enum reserve_kind {
 struct reserve_outcome {
     uint16_t answer; /* enum reserve_answer */
     uint16_t node;   /* the newcomer's node, or the node given up */
-    uint16_t moves;  /* how many moves stand at the front of the list */
+    uint16_t moves;  /* how many moves stand at the front of the bytes lent for them */
+};
+
+/* Which pages a node covers. */
+struct reserve_pages {
+    uint16_t answer; /* enum reserve_answer: 0, 1 or 7 */
+    uint16_t first;  /* the first page */
+    uint16_t count;  /* how many pages, from the first one on */
 };
 
 /* What counting a map reports. */
@@ -152,6 +179,10 @@ struct reserve_outcome reserve_grant_pages(uint16_t height, uint8_t *table, size
 /* Releases a tenant's block. Answers 0, or 1 to 4, 7 or 9. */
 struct reserve_outcome reserve_release(uint16_t height, uint8_t *table, size_t table_length, uint8_t *moves,
                                        size_t moves_length, uint16_t tenant);
+
+/* The pages that a node covers in a reserve of this height. Answers 0; 1; or 7 if the tree has no such node: 0, or above
+ * 2^(h+1) - 1. */
+struct reserve_pages reserve_node_pages(uint16_t height, uint16_t node);
 
 /* Draws the page map of a table into the first 512 bytes lent, and leaves those after them. Pages that the reserve does not have are
  * not set. Answers 0, or 1, 2, 7 or 15. */

@@ -1,8 +1,9 @@
 #!/usr/bin/env python3
-"""Compares the declarations of include/reserve.h with the exported functions of crates/reserve/src.
+"""Compares include/reserve.h with the Rattle source that it is the C side of.
 
-Each function and each struct has to be on both sides, with as many parameters or fields of the same widths in the same
-order. Prints what differs; the last line is 'N passed, M failed'.
+Each function and each struct has to be on both sides, with the same parameters or fields: their names, their types and
+their order. A slice `table: &mut [u8]` is `uint8_t *table, size_t table_length` in C. Each constant has to have the number
+that crates/refusal or a definition in specs/ has. Prints what differs; the last line is 'N passed, M failed'.
 """
 import glob
 import re
@@ -10,77 +11,150 @@ import sys
 
 WIDTHS = {"uint8_t": "u8", "uint16_t": "u16", "uint32_t": "u32", "uint64_t": "u64", "size_t": "usize"}
 
+# What the header alone says.
+OWN = {"RESERVE_H", "RESERVE_VERSION", "RESERVE_VERSION_MAJOR", "RESERVE_VERSION_MINOR"}
+
+
+def text_of(path):
+    with open(path, encoding="utf-8") as file:
+        return file.read()
+
+
+# ---- the header
+
 
 def c_type(words):
     """The Rattle name of a C type that is no pointer; a struct by its name."""
     return WIDTHS.get(words[-1]) or "struct " + words[-1].removeprefix("reserve_")
 
 
-def c_parameter(text):
-    """A pointer is 'const *' or 'mut *'; the length that follows it is a number of its own."""
-    if "*" in text:
-        before = text.split("*")[0].split()
-        return ("const *" if before[0] == "const" else "mut *") + WIDTHS[before[-1]]
-    return c_type(text.split()[:-1])
+def c_named(text):
+    """A parameter or a field as 'name: type'; a pointer is 'const *' or 'mut *'."""
+    name = re.search(r"\w+$", text.strip())[0]
+    words = text.replace("*", " ").split()[:-1]
+    if "*" not in text:
+        return f"{name}: {c_type(words)}"
+    return f"{name}: {'const' if 'const' in words else 'mut'} *{WIDTHS[words[-1]]}"
 
 
-def header_side(text):
-    text = re.sub(r"/\*.*?\*/|^\s*#.*?$", "", text, flags=re.S | re.M)
+def header_declarations(text):
+    text = re.sub(r"^\s*#.*?$", "", text, flags=re.M)
     structs = {
-        "struct " + name.removeprefix("reserve_"): [c_type(field.split()[:-1]) for field in body.split(";") if field.strip()]
+        "struct " + name.removeprefix("reserve_"): [c_named(field) for field in body.split(";") if field.strip()]
         for name, body in re.findall(r"struct\s+(\w+)\s*\{(.*?)\}", text, flags=re.S)
     }
     outside = re.sub(r"\{[^{}]*\}", "", text)
     functions = {
-        name: [c_type(result.split())] + [c_parameter(one) for one in parameters.split(",")]
+        name: [c_type(result.split())] + [c_named(one) for one in parameters.split(",")]
         for result, name, parameters in re.findall(r"([\w ]+?)\s+(\w+)\(([^)]*)\)\s*;", outside)
     }
     return {**structs, **functions}
 
 
-def rattle_parameter(text):
-    """A slice is passed as a pointer and a length."""
-    kind = text.split(":", 1)[1].strip()
-    slice_of = re.fullmatch(r"&(mut )?\[(\w+)\]", kind)
-    if slice_of:
-        return [("mut *" if slice_of[1] else "const *") + slice_of[2], "usize"]
-    return [kind]
+def header_constants(text):
+    """Each macro and each constant of an enum, with its number, or its text if it is no number."""
+    macros = re.findall(r"^\s*#define[ \t]+(\w+)(?:[ \t]+(.*?))?[ \t]*$", text, flags=re.M)
+    listed = [one.strip() for body in re.findall(r"enum\s+\w+\s*\{(.*?)\}", text, flags=re.S) for one in body.split(",")]
+    pairs = macros + [tuple(re.split(r"\s*=\s*", one)) if "=" in one else (one, "") for one in listed if one]
+    return {name: int(value) if value.isdecimal() else value for name, value in pairs if name not in OWN}
+
+
+# ---- the exported functions
 
 
 def rattle_type(name):
     return name if name in WIDTHS.values() else "struct " + name.lower()
 
 
-def source_side(text):
+def rattle_named(text):
+    """A slice is passed as a pointer and a length."""
+    name, kind = re.split(r"\s*:\s*", text.strip(), maxsplit=1)
+    slice_of = re.fullmatch(r"&(mut )?\[(\w+)\]", kind)
+    if slice_of:
+        return [f"{name}: {'mut' if slice_of[1] else 'const'} *{slice_of[2]}", f"{name}_length: usize"]
+    return [f"{name}: {rattle_type(kind)}"]
+
+
+def split_list(text):
+    return [one for one in re.split(r",\s*", text.strip()) if one]
+
+
+def source_declarations(text):
     text = re.sub(r"//.*", "", text)
     structs = {
-        "struct " + name.lower(): re.findall(r"pub \w+: (\w+)", body)
+        "struct " + name.lower(): [part for one in split_list(body) for part in rattle_named(one.removeprefix("pub "))]
         for name, body in re.findall(r"#\[repr\(C\)\]\s*pub struct (\w+) \{(.*?)\}", text, flags=re.S)
     }
     exported = re.findall(r'#\[no_mangle\]\s*pub extern "C" fn (\w+)\((.*?)\) -> (\w+)', text, flags=re.S)
     functions = {
-        name: [rattle_type(result)]
-        + [part for one in re.split(r",\s*", parameters.strip().rstrip(",")) for part in rattle_parameter(one)]
+        name: [rattle_type(result)] + [part for one in split_list(parameters) for part in rattle_named(one)]
         for name, parameters, result in exported
     }
     return {**structs, **functions}
 
 
+# ---- the numbers
+
+
+def numbers(path, pattern):
+    found = [int(number) for number in re.findall(pattern, text_of(path), flags=re.M)]
+    if not found:
+        sys.exit(f"{path}: nothing like {pattern}")
+    return found
+
+
+def number(path, pattern):
+    """The number that a definition has; the same if it has it more than once."""
+    found = set(numbers(path, pattern))
+    if len(found) > 1:
+        sys.exit(f"{path}: {pattern} is {sorted(found)}")
+    return found.pop()
+
+
+def refusals():
+    constants = re.findall(r"^pub const (\w+): u16 = (\d+);$", text_of("crates/refusal/src/lib.rt"), flags=re.M)
+    return {"RESERVE_REFUSED_" + name: int(value) for name, value in constants}
+
+
+def kinds():
+    named = re.findall(r"^kindByte Kind\.(\w+) = (\d+)$", text_of("crates/journal/specs/Format.antt"), flags=re.M)
+    capitals = lambda name: re.sub(r"(?<=[a-z])(?=[A-Z])", "_", name).upper()
+    return {"RESERVE_KIND_" + capitals(name): int(value) for name, value in named}
+
+
+def sizes():
+    """The other constants, each from the definition that fixes it."""
+    step = "crates/calls/specs/Step.antt"
+    move = number("crates/reserve/specs/Door.antt", r"^entriesIn \w+ = length \w+ / (\d+)$")
+    return {
+        "RESERVE_DONE": number(step, r"^first \[\] = (\d+)$"),
+        "RESERVE_KIND_NONE": number("crates/reserve/specs/Records.antt", r"^readingOf at Read\.End = .*kind = (\d+);"),
+        "RESERVE_MAX_HEIGHT": number(step, r"check 1 \(ltb (\d+) h\)"),
+        "RESERVE_TENANTS": number(step, r"check 4 \(ltb (\d+) t\)") + 1,
+        "RESERVE_TABLE_BYTES": number("crates/reserve/specs/Image.antt", r"eqb \(length image\) (\d+)"),
+        "RESERVE_MOVE_BYTES": move,
+        "RESERVE_MOVES_BYTES": number(step, r"check 3 \(ltb m (\d+)\)") * move,
+        "RESERVE_MAP_BYTES": number("crates/pagemap/specs/Draw.antt", r"check 15 \(ltb \(length m\) (\d+)\)"),
+        "RESERVE_RECORD_BYTES": 1 + max(numbers("crates/journal/specs/Format.antt", r"^bodyLength Kind\.\w+ = (\d+)$")),
+        "RESERVE_JOURNAL_BYTES": number("crates/journal/specs/Reader.antt", r"ltb (\d+) \(length journal\)"),
+    }
+
+
 def main():
-    with open("include/reserve.h", encoding="utf-8") as header:
-        declared = header_side(header.read())
-    written = {}
+    header = re.sub(r"/\*.*?\*/", "", text_of("include/reserve.h"), flags=re.S)
+    exported = {}
     for path in sorted(glob.glob("crates/reserve/src/*.rt")):
-        with open(path, encoding="utf-8") as source:
-            written.update(source_side(source.read()))
+        exported.update(source_declarations(text_of(path)))
+    declared = {**header_declarations(header), **header_constants(header)}
+    written = {**exported, **refusals(), **kinds(), **sizes()}
     differing = 0
     names = sorted(declared.keys() | written.keys())
     for name in names:
         if declared.get(name) != written.get(name):
             differing += 1
-            print(f"{name}: declared as {declared.get(name)}, exported as {written.get(name)}")
+            print(f"{name}: {declared.get(name)} in the header, {written.get(name)} in the source")
     print(f"{len(names) - differing} passed, {differing} failed")
-    return 1 if differing or not written else 0
+    return 1 if differing or not exported else 0
 
 
 if __name__ == "__main__":

@@ -91,24 +91,24 @@ static void put_node(struct lent table, unsigned tenant, unsigned node) {
     table.bytes[2 * tenant + 1] = (uint8_t)(node / 256);
 }
 
-static int is_move(struct lent list, unsigned place, unsigned tenant, unsigned from, unsigned to) {
-    const uint8_t *move = list.bytes + RESERVE_MOVE_BYTES * place;
+static int is_move(struct lent moves, unsigned place, unsigned tenant, unsigned from, unsigned to) {
+    const uint8_t *move = moves.bytes + RESERVE_MOVE_BYTES * place;
     return word(move) == tenant && word(move + 2) == from && word(move + 4) == to;
 }
 
-/* ---- a reserve with its table and list */
+/* ---- a reserve with its table and moves */
 
 struct box {
     uint16_t height;
     struct lent table;
-    struct lent list;
+    struct lent moves;
 };
 
 static struct box open_box(uint16_t height) {
     struct box box;
     box.height = height;
     box.table = lend(RESERVE_TABLE_BYTES, 0xEE);
-    box.list = lend(RESERVE_LIST_BYTES + 7, 0x77);
+    box.moves = lend(RESERVE_MOVES_BYTES + 7, 0x77);
     EXPECT(reserve_open(height, box.table.bytes, box.table.length) == RESERVE_DONE);
     EXPECT(all_are(box.table, 0));
     return box;
@@ -116,29 +116,29 @@ static struct box open_box(uint16_t height) {
 
 static void close_box(struct box box) {
     give_back(box.table);
-    give_back(box.list);
+    give_back(box.moves);
 }
 
 static struct reserve_outcome grant_level(struct box box, uint16_t tenant, uint16_t level) {
-    memset(box.list.bytes, 0x77, box.list.length);
-    return reserve_grant_level(box.height, box.table.bytes, box.table.length, box.list.bytes, box.list.length, tenant, level);
+    memset(box.moves.bytes, 0x77, box.moves.length);
+    return reserve_grant_level(box.height, box.table.bytes, box.table.length, box.moves.bytes, box.moves.length, tenant, level);
 }
 
 static struct reserve_outcome grant_pages(struct box box, uint16_t tenant, uint16_t pages) {
-    memset(box.list.bytes, 0x77, box.list.length);
-    return reserve_grant_pages(box.height, box.table.bytes, box.table.length, box.list.bytes, box.list.length, tenant, pages);
+    memset(box.moves.bytes, 0x77, box.moves.length);
+    return reserve_grant_pages(box.height, box.table.bytes, box.table.length, box.moves.bytes, box.moves.length, tenant, pages);
 }
 
 static struct reserve_outcome release(struct box box, uint16_t tenant) {
-    memset(box.list.bytes, 0x77, box.list.length);
-    return reserve_release(box.height, box.table.bytes, box.table.length, box.list.bytes, box.list.length, tenant);
+    memset(box.moves.bytes, 0x77, box.moves.length);
+    return reserve_release(box.height, box.table.bytes, box.table.length, box.moves.bytes, box.moves.length, tenant);
 }
 
 /* the bytes after so many moves are as they were lent */
-static int list_ends_after(struct box box, unsigned moves) {
+static int moves_end_after(struct box box, unsigned number) {
     size_t i;
-    for (i = RESERVE_MOVE_BYTES * moves; i < box.list.length; i++) {
-        if (box.list.bytes[i] != 0x77) {
+    for (i = RESERVE_MOVE_BYTES * number; i < box.moves.length; i++) {
+        if (box.moves.bytes[i] != 0x77) {
             return 0;
         }
     }
@@ -147,12 +147,12 @@ static int list_ends_after(struct box box, unsigned moves) {
 
 static int granted(struct box box, struct reserve_outcome got, unsigned tenant, unsigned node, unsigned moves) {
     return got.answer == RESERVE_DONE && got.node == node && got.moves == moves && node_of(box.table, tenant) == node &&
-           list_ends_after(box, moves);
+           moves_end_after(box, moves);
 }
 
 static int released(struct box box, struct reserve_outcome got, unsigned tenant, unsigned node, unsigned moves) {
     return got.answer == RESERVE_DONE && got.node == node && got.moves == moves && node_of(box.table, tenant) == 0 &&
-           list_ends_after(box, moves);
+           moves_end_after(box, moves);
 }
 
 static int refused(struct reserve_outcome got, unsigned answer) {
@@ -166,14 +166,14 @@ static void opening(void) {
     struct lent shorter = lend(RESERVE_TABLE_BYTES - 2, 0x5A);
     struct lent longer = lend(RESERVE_TABLE_BYTES + 2, 0x5A);
     struct lent odd = lend(RESERVE_TABLE_BYTES - 1, 0x5A);
-    EXPECT(reserve_open(13, table.bytes, table.length) == RESERVE_HEIGHT);
-    EXPECT(reserve_open(65535, table.bytes, table.length) == RESERVE_HEIGHT);
-    EXPECT(reserve_open(13, shorter.bytes, shorter.length) == RESERVE_HEIGHT);
-    EXPECT(reserve_open(12, shorter.bytes, shorter.length) == RESERVE_TABLE);
-    EXPECT(reserve_open(12, longer.bytes, longer.length) == RESERVE_TABLE);
-    EXPECT(reserve_open(12, odd.bytes, odd.length) == RESERVE_TABLE);
-    EXPECT(reserve_open(12, NULL, 0) == RESERVE_TABLE);
-    EXPECT(reserve_open(13, NULL, 0) == RESERVE_HEIGHT);
+    EXPECT(reserve_open(13, table.bytes, table.length) == RESERVE_REFUSED_HEIGHT);
+    EXPECT(reserve_open(65535, table.bytes, table.length) == RESERVE_REFUSED_HEIGHT);
+    EXPECT(reserve_open(13, shorter.bytes, shorter.length) == RESERVE_REFUSED_HEIGHT);
+    EXPECT(reserve_open(12, shorter.bytes, shorter.length) == RESERVE_REFUSED_TABLE_LENGTH);
+    EXPECT(reserve_open(12, longer.bytes, longer.length) == RESERVE_REFUSED_TABLE_LENGTH);
+    EXPECT(reserve_open(12, odd.bytes, odd.length) == RESERVE_REFUSED_TABLE_LENGTH);
+    EXPECT(reserve_open(12, NULL, 0) == RESERVE_REFUSED_TABLE_LENGTH);
+    EXPECT(reserve_open(13, NULL, 0) == RESERVE_REFUSED_HEIGHT);
     EXPECT(all_are(table, 0x5A) && all_are(shorter, 0x5A) && all_are(longer, 0x5A) && all_are(odd, 0x5A));
     EXPECT(reserve_open(12, table.bytes, table.length) == RESERVE_DONE);
     EXPECT(all_are(table, 0));
@@ -192,13 +192,13 @@ static void four_pages(void) {
     EXPECT(granted(box, grant_level(box, 0, 1), 0, 2, 0));
     EXPECT(granted(box, grant_level(box, 1, 0), 1, 6, 0));
     EXPECT(granted(box, grant_level(box, 2, 0), 2, 5, 2));
-    EXPECT(is_move(box.list, 0, 1, 6, 4));
-    EXPECT(is_move(box.list, 1, 0, 2, 3));
+    EXPECT(is_move(box.moves, 0, 1, 6, 4));
+    EXPECT(is_move(box.moves, 1, 0, 2, 3));
     EXPECT(node_of(box.table, 0) == 3 && node_of(box.table, 1) == 4);
-    EXPECT(refused(release(box, 7), RESERVE_HOLDS_NONE));
-    EXPECT(refused(grant_pages(box, 3, 1), RESERVE_NO_ROOM));
-    EXPECT(refused(grant_level(box, 1, 0), RESERVE_HOLDS));
-    EXPECT(list_ends_after(box, 0));
+    EXPECT(refused(release(box, 7), RESERVE_REFUSED_HOLDS_NONE));
+    EXPECT(refused(grant_pages(box, 3, 1), RESERVE_REFUSED_NO_ROOM));
+    EXPECT(refused(grant_level(box, 1, 0), RESERVE_REFUSED_HOLDS));
+    EXPECT(moves_end_after(box, 0));
     EXPECT(released(box, release(box, 1), 1, 4, 2));
     close_box(box);
 }
@@ -217,14 +217,14 @@ static void most_moves(void) {
     {
         unsigned on_12 = node_of(box.table, 12) == 12 ? 12 : 13;
         EXPECT(granted(box, grant_level(box, 14, 1), 14, 17, 3));
-        EXPECT(is_move(box.list, 0, 10, 34, 44));
-        EXPECT(is_move(box.list, 1, on_12, 12, 10));
-        EXPECT(is_move(box.list, 2, 4095, 5, 6));
+        EXPECT(is_move(box.moves, 0, 10, 34, 44));
+        EXPECT(is_move(box.moves, 1, on_12, 12, 10));
+        EXPECT(is_move(box.moves, 2, 4095, 5, 6));
         EXPECT(released(box, release(box, 11), 11, 16, 4));
-        EXPECT(is_move(box.list, 0, 10, 44, 34));
-        EXPECT(is_move(box.list, 1, 14, 17, 16));
-        EXPECT(is_move(box.list, 2, on_12, 10, 12));
-        EXPECT(is_move(box.list, 3, 4095, 6, 5));
+        EXPECT(is_move(box.moves, 0, 10, 44, 34));
+        EXPECT(is_move(box.moves, 1, 14, 17, 16));
+        EXPECT(is_move(box.moves, 2, on_12, 10, 12));
+        EXPECT(is_move(box.moves, 3, 4095, 6, 5));
     }
     close_box(box);
 }
@@ -234,65 +234,95 @@ static void arguments(void) {
     struct box box = open_box(3);
     struct lent longer = lend(RESERVE_TABLE_BYTES + 2, 0x11);
     struct lent shorter = lend(RESERVE_TABLE_BYTES - 2, 0x11);
-    struct lent three = lend(RESERVE_LIST_BYTES - 1, 0x22);
+    struct lent few = lend(RESERVE_MOVES_BYTES - 1, 0x22);
     uint8_t *table, *copy;
     EXPECT(granted(box, grant_pages(box, 5, 2), 5, 4, 0));
     table = copy_of(box.table);
-    EXPECT(refused(reserve_grant_level(13, longer.bytes, longer.length, three.bytes, three.length, 4096, 14), RESERVE_HEIGHT));
-    EXPECT(refused(reserve_grant_level(12, longer.bytes, longer.length, three.bytes, three.length, 4096, 14), RESERVE_TABLE));
-    EXPECT(refused(reserve_grant_pages(12, shorter.bytes, shorter.length, three.bytes, three.length, 4096, 9), RESERVE_TABLE));
-    EXPECT(refused(reserve_release(12, shorter.bytes, shorter.length, three.bytes, three.length, 4096), RESERVE_TABLE));
-    EXPECT(refused(reserve_release(12, NULL, 0, NULL, 0, 4096), RESERVE_TABLE));
-    EXPECT(refused(reserve_release(3, box.table.bytes, box.table.length, NULL, 0, 4096), RESERVE_LIST));
-    EXPECT(refused(reserve_grant_level(3, box.table.bytes, box.table.length, three.bytes, three.length, 4096, 4), RESERVE_LIST));
-    EXPECT(refused(reserve_grant_pages(3, box.table.bytes, box.table.length, three.bytes, three.length, 4096, 9), RESERVE_LIST));
-    EXPECT(refused(reserve_release(3, box.table.bytes, box.table.length, three.bytes, three.length, 4096), RESERVE_LIST));
-    EXPECT(refused(grant_level(box, 4096, 4), RESERVE_TENANT));
-    EXPECT(refused(grant_pages(box, 65535, 9), RESERVE_TENANT));
-    EXPECT(refused(release(box, 4096), RESERVE_TENANT));
-    EXPECT(refused(grant_level(box, 5, 4), RESERVE_LEVEL));
-    EXPECT(refused(grant_level(box, 5, 65535), RESERVE_LEVEL));
-    EXPECT(refused(grant_pages(box, 5, 9), RESERVE_PAGES));
-    EXPECT(refused(grant_pages(box, 5, 65535), RESERVE_PAGES));
-    EXPECT(refused(grant_level(box, 5, 3), RESERVE_HOLDS));
-    EXPECT(refused(grant_level(box, 6, 3), RESERVE_NO_ROOM));
-    EXPECT(refused(grant_pages(box, 6, 8), RESERVE_NO_ROOM));
-    EXPECT(refused(release(box, 6), RESERVE_HOLDS_NONE));
-    EXPECT(list_ends_after(box, 0));
+    EXPECT(refused(reserve_grant_level(13, longer.bytes, longer.length, few.bytes, few.length, 4096, 14),
+                   RESERVE_REFUSED_HEIGHT));
+    EXPECT(refused(reserve_grant_level(12, longer.bytes, longer.length, few.bytes, few.length, 4096, 14),
+                   RESERVE_REFUSED_TABLE_LENGTH));
+    EXPECT(refused(reserve_grant_pages(12, shorter.bytes, shorter.length, few.bytes, few.length, 4096, 9),
+                   RESERVE_REFUSED_TABLE_LENGTH));
+    EXPECT(refused(reserve_release(12, shorter.bytes, shorter.length, few.bytes, few.length, 4096),
+                   RESERVE_REFUSED_TABLE_LENGTH));
+    EXPECT(refused(reserve_release(12, NULL, 0, NULL, 0, 4096), RESERVE_REFUSED_TABLE_LENGTH));
+    EXPECT(refused(reserve_release(3, box.table.bytes, box.table.length, NULL, 0, 4096), RESERVE_REFUSED_MOVES));
+    EXPECT(refused(reserve_grant_level(3, box.table.bytes, box.table.length, few.bytes, few.length, 4096, 4),
+                   RESERVE_REFUSED_MOVES));
+    EXPECT(refused(reserve_grant_pages(3, box.table.bytes, box.table.length, few.bytes, few.length, 4096, 9),
+                   RESERVE_REFUSED_MOVES));
+    EXPECT(refused(reserve_release(3, box.table.bytes, box.table.length, few.bytes, few.length, 4096),
+                   RESERVE_REFUSED_MOVES));
+    EXPECT(refused(grant_level(box, 4096, 4), RESERVE_REFUSED_TENANT));
+    EXPECT(refused(grant_pages(box, 65535, 9), RESERVE_REFUSED_TENANT));
+    EXPECT(refused(release(box, 4096), RESERVE_REFUSED_TENANT));
+    EXPECT(refused(grant_level(box, 5, 4), RESERVE_REFUSED_LEVEL));
+    EXPECT(refused(grant_level(box, 5, 65535), RESERVE_REFUSED_LEVEL));
+    EXPECT(refused(grant_pages(box, 5, 9), RESERVE_REFUSED_PAGES));
+    EXPECT(refused(grant_pages(box, 5, 65535), RESERVE_REFUSED_PAGES));
+    EXPECT(refused(grant_level(box, 5, 3), RESERVE_REFUSED_HOLDS));
+    EXPECT(refused(grant_level(box, 6, 3), RESERVE_REFUSED_NO_ROOM));
+    EXPECT(refused(grant_pages(box, 6, 8), RESERVE_REFUSED_NO_ROOM));
+    EXPECT(refused(release(box, 6), RESERVE_REFUSED_HOLDS_NONE));
+    EXPECT(moves_end_after(box, 0));
     copy = copy_of(box.table);
     EXPECT(memcmp(table, copy, box.table.length) == 0);
-    EXPECT(all_are(longer, 0x11) && all_are(shorter, 0x11) && all_are(three, 0x22));
+    EXPECT(all_are(longer, 0x11) && all_are(shorter, 0x11) && all_are(few, 0x22));
     free(table);
     free(copy);
     give_back(longer);
     give_back(shorter);
-    give_back(three);
+    give_back(few);
     close_box(box);
 }
 
-/* a list of exactly 24 bytes is enough; sizes at their edges */
+/* 24 bytes are enough for the moves; sizes at their edges */
 static void edges(void) {
     struct lent table = lend(RESERVE_TABLE_BYTES, 1);
-    struct lent list = lend(RESERVE_LIST_BYTES, 0x33);
+    struct lent moves = lend(RESERVE_MOVES_BYTES, 0x33);
     struct reserve_outcome got;
     EXPECT(reserve_open(12, table.bytes, table.length) == RESERVE_DONE);
-    got = reserve_grant_pages(12, table.bytes, table.length, list.bytes, list.length, 4095, 4096);
+    got = reserve_grant_pages(12, table.bytes, table.length, moves.bytes, moves.length, 4095, 4096);
     EXPECT(got.answer == RESERVE_DONE && got.node == 1 && got.moves == 0);
-    EXPECT(refused(reserve_grant_pages(12, table.bytes, table.length, list.bytes, list.length, 0, 4097), RESERVE_PAGES));
-    EXPECT(refused(reserve_grant_pages(12, table.bytes, table.length, list.bytes, list.length, 0, 0), RESERVE_NO_ROOM));
-    got = reserve_release(12, table.bytes, table.length, list.bytes, list.length, 4095);
+    EXPECT(refused(reserve_grant_pages(12, table.bytes, table.length, moves.bytes, moves.length, 0, 4097),
+                   RESERVE_REFUSED_PAGES));
+    EXPECT(refused(reserve_grant_pages(12, table.bytes, table.length, moves.bytes, moves.length, 0, 0),
+                   RESERVE_REFUSED_NO_ROOM));
+    got = reserve_release(12, table.bytes, table.length, moves.bytes, moves.length, 4095);
     EXPECT(got.answer == RESERVE_DONE && got.node == 1 && got.moves == 0);
     EXPECT(all_are(table, 0));
-    got = reserve_grant_pages(12, table.bytes, table.length, list.bytes, list.length, 0, 0);
+    got = reserve_grant_pages(12, table.bytes, table.length, moves.bytes, moves.length, 0, 0);
     EXPECT(got.answer == RESERVE_DONE && got.node == 4096 && node_of(table, 0) == 4096);
-    got = reserve_grant_level(12, table.bytes, table.length, list.bytes, list.length, 1, 11);
-    EXPECT(got.answer == RESERVE_DONE && got.node == 2 && got.moves == 1 && is_move(list, 0, 0, 4096, 6144));
+    got = reserve_grant_level(12, table.bytes, table.length, moves.bytes, moves.length, 1, 11);
+    EXPECT(got.answer == RESERVE_DONE && got.node == 2 && got.moves == 1 && is_move(moves, 0, 0, 4096, 6144));
     EXPECT(reserve_open(0, table.bytes, table.length) == RESERVE_DONE);
-    got = reserve_grant_level(0, table.bytes, table.length, list.bytes, list.length, 2, 0);
+    got = reserve_grant_level(0, table.bytes, table.length, moves.bytes, moves.length, 2, 0);
     EXPECT(got.answer == RESERVE_DONE && got.node == 1);
-    EXPECT(refused(reserve_grant_level(0, table.bytes, table.length, list.bytes, list.length, 3, 1), RESERVE_LEVEL));
+    EXPECT(refused(reserve_grant_level(0, table.bytes, table.length, moves.bytes, moves.length, 3, 1),
+                   RESERVE_REFUSED_LEVEL));
     give_back(table);
-    give_back(list);
+    give_back(moves);
+}
+
+/* one byte fewer than the moves need is refused, where nothing else is wrong; all that they need, and more, is not */
+static void bytes_of_moves(void) {
+    size_t n;
+    for (n = 0; n <= RESERVE_MOVES_BYTES + 1; n++) {
+        unsigned answer = n < RESERVE_MOVES_BYTES ? RESERVE_REFUSED_MOVES : RESERVE_DONE;
+        struct lent table = lend(RESERVE_TABLE_BYTES, 0);
+        struct lent moves = lend(n, 0x22);
+        EXPECT(reserve_grant_level(2, table.bytes, table.length, moves.bytes, n, 0, 1).answer == answer);
+        EXPECT(reserve_grant_pages(2, table.bytes, table.length, moves.bytes, n, 1, 2).answer == answer);
+        EXPECT(all_are(table, 0) == (n < RESERVE_MOVES_BYTES));
+        put_node(table, 0, 2);
+        put_node(table, 1, 3);
+        EXPECT(reserve_release(2, table.bytes, table.length, moves.bytes, n, 1).answer == answer);
+        EXPECT(node_of(table, 1) == (n < RESERVE_MOVES_BYTES ? 3 : 0));
+        EXPECT(all_are(moves, 0x22));
+        give_back(table);
+        give_back(moves);
+    }
 }
 
 /* the low byte first, at a node above 255 */
@@ -315,10 +345,10 @@ static void not_in_order(void) {
         put_node(box.table, 100, nodes[i][0]);
         put_node(box.table, 4095, nodes[i][1]);
         copy = copy_of(box.table);
-        EXPECT(refused(grant_level(box, 100, 0), RESERVE_NOT_IN_ORDER));
-        EXPECT(refused(grant_pages(box, 5, 8), RESERVE_NOT_IN_ORDER));
-        EXPECT(refused(release(box, 5), RESERVE_NOT_IN_ORDER));
-        EXPECT(memcmp(copy, box.table.bytes, box.table.length) == 0 && list_ends_after(box, 0));
+        EXPECT(refused(grant_level(box, 100, 0), RESERVE_REFUSED_NOT_IN_ORDER));
+        EXPECT(refused(grant_pages(box, 5, 8), RESERVE_REFUSED_NOT_IN_ORDER));
+        EXPECT(refused(release(box, 5), RESERVE_REFUSED_NOT_IN_ORDER));
+        EXPECT(memcmp(copy, box.table.bytes, box.table.length) == 0 && moves_end_after(box, 0));
         free(copy);
         close_box(box);
     }
@@ -333,7 +363,7 @@ static void everybody(void) {
         right = right && granted(box, grant_pages(box, (uint16_t)t, 1), t, 4096 + t, 0);
     }
     EXPECT(right);
-    EXPECT(refused(grant_level(box, 0, 0), RESERVE_HOLDS));
+    EXPECT(refused(grant_level(box, 0, 0), RESERVE_REFUSED_HOLDS));
     right = 1;
     for (t = RESERVE_TENANTS; t > 0; t--) {
         right = right && released(box, release(box, (uint16_t)(t - 1)), t - 1, 4096 + t - 1, 0);
@@ -370,17 +400,17 @@ static void page_map(void) {
     }
     EXPECT(counts(map, RESERVE_DONE, 3));
     memset(map.bytes, 0x6C, map.length);
-    EXPECT(reserve_draw(13, box.table.bytes, box.table.length, shorter.bytes, shorter.length) == RESERVE_HEIGHT);
-    EXPECT(reserve_draw(3, box.table.bytes, box.table.length - 1, shorter.bytes, shorter.length) == RESERVE_TABLE);
-    EXPECT(reserve_draw(3, NULL, 0, NULL, 0) == RESERVE_TABLE);
-    EXPECT(reserve_draw(3, box.table.bytes, box.table.length, shorter.bytes, shorter.length) == RESERVE_TOO_SHORT);
-    EXPECT(reserve_draw(3, box.table.bytes, box.table.length, NULL, 0) == RESERVE_TOO_SHORT);
+    EXPECT(reserve_draw(13, box.table.bytes, box.table.length, shorter.bytes, shorter.length) == RESERVE_REFUSED_HEIGHT);
+    EXPECT(reserve_draw(3, box.table.bytes, box.table.length - 1, shorter.bytes, shorter.length) == RESERVE_REFUSED_TABLE_LENGTH);
+    EXPECT(reserve_draw(3, NULL, 0, NULL, 0) == RESERVE_REFUSED_TABLE_LENGTH);
+    EXPECT(reserve_draw(3, box.table.bytes, box.table.length, shorter.bytes, shorter.length) == RESERVE_REFUSED_TOO_SHORT);
+    EXPECT(reserve_draw(3, box.table.bytes, box.table.length, NULL, 0) == RESERVE_REFUSED_TOO_SHORT);
     put_node(box.table, 9, 4);
-    EXPECT(reserve_draw(3, box.table.bytes, box.table.length, shorter.bytes, shorter.length) == RESERVE_NOT_IN_ORDER);
-    EXPECT(reserve_draw(3, box.table.bytes, box.table.length, map.bytes, map.length) == RESERVE_NOT_IN_ORDER);
+    EXPECT(reserve_draw(3, box.table.bytes, box.table.length, shorter.bytes, shorter.length) == RESERVE_REFUSED_NOT_IN_ORDER);
+    EXPECT(reserve_draw(3, box.table.bytes, box.table.length, map.bytes, map.length) == RESERVE_REFUSED_NOT_IN_ORDER);
     EXPECT(all_are(map, 0x6C) && all_are(shorter, 0xFF));
-    EXPECT(counts(shorter, RESERVE_TOO_SHORT, 0));
-    EXPECT(reserve_count(NULL, 0).answer == RESERVE_TOO_SHORT);
+    EXPECT(counts(shorter, RESERVE_REFUSED_TOO_SHORT, 0));
+    EXPECT(reserve_count(NULL, 0).answer == RESERVE_REFUSED_TOO_SHORT);
     close_box(box);
     give_back(map);
     give_back(shorter);
@@ -392,6 +422,77 @@ static void page_map(void) {
     EXPECT(counts(map, RESERVE_DONE, 2048));
     close_box(box);
     give_back(map);
+}
+
+/* ---- bytes that lie side by side: a table, with the moves or the map right in front of it or right behind it */
+
+static int same(struct reserve_outcome one, struct reserve_outcome other) {
+    return one.answer == other.answer && one.node == other.node && one.moves == other.moves;
+}
+
+static void side_by_side(void) {
+    struct box apart = open_box(5);
+    struct lent map = lend(RESERVE_MAP_BYTES, 0);
+    struct lent joint = lend(RESERVE_MAP_BYTES + RESERVE_TABLE_BYTES + RESERVE_MAP_BYTES, 0);
+    uint8_t *table = joint.bytes + RESERVE_MAP_BYTES;
+    uint8_t *behind = table + RESERVE_TABLE_BYTES;
+    static const uint8_t levels[] = {0, 1, 2, 2, 3, 1};
+    unsigned t;
+    for (t = 0; t < sizeof levels; t++) {
+        uint8_t *moves = t % 2 == 0 ? table - RESERVE_MOVES_BYTES : behind;
+        struct reserve_outcome got;
+        memset(moves, 0x77, RESERVE_MOVES_BYTES);
+        got = reserve_grant_level(5, table, RESERVE_TABLE_BYTES, moves, RESERVE_MOVES_BYTES, (uint16_t)t, levels[t]);
+        EXPECT(same(got, grant_level(apart, (uint16_t)t, levels[t])) && got.answer == RESERVE_DONE);
+        EXPECT(memcmp(table, apart.table.bytes, RESERVE_TABLE_BYTES) == 0);
+        EXPECT(memcmp(moves, apart.moves.bytes, RESERVE_MOVES_BYTES) == 0);
+    }
+    EXPECT(reserve_draw(5, apart.table.bytes, RESERVE_TABLE_BYTES, map.bytes, RESERVE_MAP_BYTES) == RESERVE_DONE);
+    EXPECT(reserve_draw(5, table, RESERVE_TABLE_BYTES, joint.bytes, RESERVE_MAP_BYTES) == RESERVE_DONE);
+    EXPECT(reserve_draw(5, table, RESERVE_TABLE_BYTES, behind, RESERVE_MAP_BYTES) == RESERVE_DONE);
+    EXPECT(memcmp(joint.bytes, map.bytes, RESERVE_MAP_BYTES) == 0 && memcmp(behind, map.bytes, RESERVE_MAP_BYTES) == 0);
+    /* no bytes overlap nothing, wherever their pointer points */
+    EXPECT(refused(reserve_release(5, table, RESERVE_TABLE_BYTES, table + 2, 0, 1), RESERVE_REFUSED_MOVES));
+    EXPECT(reserve_draw(5, table, RESERVE_TABLE_BYTES, table + 2, 0) == RESERVE_REFUSED_TOO_SHORT);
+    EXPECT(memcmp(table, apart.table.bytes, RESERVE_TABLE_BYTES) == 0);
+    close_box(apart);
+    give_back(map);
+    give_back(joint);
+}
+
+/* ---- the pages of a node */
+
+static int covers(uint16_t height, unsigned node, unsigned answer, unsigned first, unsigned count) {
+    struct reserve_pages got = reserve_node_pages(height, (uint16_t)node);
+    return got.answer == answer && got.first == first && got.count == count;
+}
+
+/* a node covers its pages, and its two children each a half of them, left and right */
+static int halved(uint16_t height, unsigned node, unsigned first, unsigned count) {
+    return covers(height, node, RESERVE_DONE, first, count) &&
+           (count == 1 ||
+            (halved(height, 2 * node, first, count / 2) && halved(height, 2 * node + 1, first + count / 2, count / 2)));
+}
+
+static void node_pages(void) {
+    uint16_t height;
+    unsigned node, taller;
+    int right = 1;
+    for (height = 0; height <= RESERVE_MAX_HEIGHT; height++) {
+        EXPECT(halved(height, 1, 0, 1u << height));
+        right = right && covers(height, 0, RESERVE_REFUSED_NOT_IN_ORDER, 0, 0);
+        for (node = 2u << height; node <= 65535; node++) {
+            right = right && covers(height, node, RESERVE_REFUSED_NOT_IN_ORDER, 0, 0);
+        }
+    }
+    EXPECT(right);
+    right = 1;
+    for (taller = RESERVE_MAX_HEIGHT + 1; taller <= 65535; taller++) {
+        right = right && covers((uint16_t)taller, 0, RESERVE_REFUSED_HEIGHT, 0, 0);
+        right = right && covers((uint16_t)taller, 1, RESERVE_REFUSED_HEIGHT, 0, 0);
+        right = right && covers((uint16_t)taller, 65535, RESERVE_REFUSED_HEIGHT, 0, 0);
+    }
+    EXPECT(right);
 }
 
 /* ---- the journal */
@@ -417,24 +518,24 @@ static void reading(void) {
     EXPECT(reads(journal.bytes, length, 17, RESERVE_KIND_GRANT_PAGES, 3, 1, 22));
     EXPECT(reads(journal.bytes, length, 22, RESERVE_KIND_NONE, 0, 0, 22));
     EXPECT(reads(journal.bytes, length, (size_t)-1, RESERVE_KIND_NONE, 0, 0, (size_t)-1));
-    EXPECT(read_refused(journal.bytes, length, 3, RESERVE_UNKNOWN_KIND, 3));
-    EXPECT(read_refused(journal.bytes, 21, 17, RESERVE_CUT_OFF, 17));
-    EXPECT(read_refused(journal.bytes, length, 5, RESERVE_OPEN_AGAIN, 5));
-    EXPECT(read_refused(journal.bytes + 2, length - 2, 4, RESERVE_NO_OPEN, 0));
-    EXPECT(read_refused(NULL, 0, 0, RESERVE_NO_OPEN, 0));
+    EXPECT(read_refused(journal.bytes, length, 3, RESERVE_REFUSED_UNKNOWN_KIND, 3));
+    EXPECT(read_refused(journal.bytes, 21, 17, RESERVE_REFUSED_CUT_OFF, 17));
+    EXPECT(read_refused(journal.bytes, length, 5, RESERVE_REFUSED_OPEN_AGAIN, 5));
+    EXPECT(read_refused(journal.bytes + 2, length - 2, 4, RESERVE_REFUSED_NO_OPEN, 0));
+    EXPECT(read_refused(NULL, 0, 0, RESERVE_REFUSED_NO_OPEN, 0));
     EXPECT(memcmp(journal.bytes, sample, length) == 0);
     give_back(journal);
     journal = lend(RESERVE_JOURNAL_BYTES, 1);
     EXPECT(reads(journal.bytes, journal.length, 0, RESERVE_KIND_OPEN, 1, 0, 2));
     give_back(journal);
     journal = lend(RESERVE_JOURNAL_BYTES + 1, 0);
-    EXPECT(read_refused(journal.bytes, journal.length, 9, RESERVE_TOO_LONG, 0));
+    EXPECT(read_refused(journal.bytes, journal.length, 9, RESERVE_REFUSED_TOO_LONG, 0));
     give_back(journal);
 }
 
 static int wrote(struct reserve_written got, size_t length) { return got.answer == RESERVE_DONE && got.length == length; }
 
-static int no_room(struct reserve_written got) { return got.answer == RESERVE_TOO_SHORT && got.length == 0; }
+static int no_room(struct reserve_written got) { return got.answer == RESERVE_REFUSED_TOO_SHORT && got.length == 0; }
 
 static void writing(void) {
     static const uint8_t records[] = {1, 255, 2, 2, 1, 200, 3, 255, 15, 0, 16, 4, 254, 255, 0x44};
@@ -460,6 +561,9 @@ static void writing(void) {
         give_back(out);
     }
     EXPECT(no_room(reserve_write_open(3, NULL, 0)));
+    out = lend(2 * RESERVE_RECORD_BYTES, 0x44);
+    EXPECT(wrote(reserve_write_grant_pages(3, 1, out.bytes, out.length), RESERVE_RECORD_BYTES));
+    give_back(out);
 }
 
 int main(void) {
@@ -468,10 +572,13 @@ int main(void) {
     most_moves();
     arguments();
     edges();
+    bytes_of_moves();
     byte_order();
     not_in_order();
     everybody();
     page_map();
+    side_by_side();
+    node_pages();
     reading();
     writing();
     printf("%d passed, %d failed\n", passed, failed);

@@ -12,7 +12,7 @@
 enum { STACK = 256 * 1024, MOST = 32 * 1024, PAINT = 0xA5 };
 
 static uint8_t stack[STACK];
-static uint8_t table[RESERVE_TABLE_BYTES], list[RESERVE_LIST_BYTES], map[RESERVE_MAP_BYTES], record[RESERVE_RECORD_BYTES];
+static uint8_t table[RESERVE_TABLE_BYTES], moves[RESERVE_MOVES_BYTES], map[RESERVE_MAP_BYTES], record[RESERVE_RECORD_BYTES];
 static ucontext_t here, there;
 static int passed, failed;
 
@@ -21,9 +21,10 @@ static long overhead;
 
 static void nothing(void) {}
 static void opens(void) { reserve_open(12, table, sizeof table); }
-static void grants_level(void) { reserve_grant_level(12, table, sizeof table, list, sizeof list, 5, 4); }
-static void grants_pages(void) { reserve_grant_pages(12, table, sizeof table, list, sizeof list, 6, 9); }
-static void releases(void) { reserve_release(12, table, sizeof table, list, sizeof list, 5); }
+static void grants_level(void) { reserve_grant_level(12, table, sizeof table, moves, sizeof moves, 5, 4); }
+static void grants_pages(void) { reserve_grant_pages(12, table, sizeof table, moves, sizeof moves, 6, 9); }
+static void releases(void) { reserve_release(12, table, sizeof table, moves, sizeof moves, 5); }
+static void names_pages(void) { reserve_node_pages(12, 4100); }
 static void draws(void) { reserve_draw(12, table, sizeof table, map, sizeof map); }
 static void counts(void) { reserve_count(map, sizeof map); }
 static void writes(void) { reserve_write_grant_pages(5, 6, record, sizeof record); }
@@ -60,6 +61,7 @@ int main(void) {
     measure("reserve_grant_level", grants_level);
     measure("reserve_grant_pages", grants_pages);
     measure("reserve_release", releases);
+    measure("reserve_node_pages", names_pages);
     measure("reserve_draw", draws);
     measure("reserve_count", counts);
     measure("reserve_write_grant_pages", writes);

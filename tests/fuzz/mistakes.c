@@ -31,8 +31,8 @@ struct reserve_outcome __wrap_reserve_grant_level(uint16_t height, uint8_t *tabl
 struct reserve_outcome __wrap_reserve_grant_pages(uint16_t height, uint8_t *table, size_t table_length, uint8_t *moves,
                                                   size_t moves_length, uint16_t tenant, uint16_t pages) {
     struct reserve_outcome got = __real_reserve_grant_pages(height, table, table_length, moves, moves_length, tenant, pages);
-    if (MISTAKE == 3 && got.answer == RESERVE_NOT_IN_ORDER && height == RESERVE_MAX_HEIGHT && pages == 1)
-        got.answer = RESERVE_NO_ROOM;
+    if (MISTAKE == 3 && got.answer == RESERVE_REFUSED_NOT_IN_ORDER && height == RESERVE_MAX_HEIGHT && pages == 1)
+        got.answer = RESERVE_REFUSED_NO_ROOM;
     return got;
 }
 
@@ -46,7 +46,7 @@ uint16_t __wrap_reserve_draw(uint16_t height, const uint8_t *table, size_t table
 /* 5: a grant by pages that is cut off is reported one byte too far on, unless near the front. */
 struct reserve_reading __wrap_reserve_read(const uint8_t *journal, size_t journal_length, size_t offset) {
     struct reserve_reading got = __real_reserve_read(journal, journal_length, offset);
-    if (MISTAKE == 5 && got.answer == RESERVE_CUT_OFF && journal[offset] == RESERVE_KIND_GRANT_PAGES && offset > 8)
+    if (MISTAKE == 5 && got.answer == RESERVE_REFUSED_CUT_OFF && journal[offset] == RESERVE_KIND_GRANT_PAGES && offset > 8)
         got.offset = offset + 1;
     return got;
 }

@@ -1,3 +1,4 @@
 pub mod Images
 pub mod Counts
 pub mod Reports
+pub mod NodePages

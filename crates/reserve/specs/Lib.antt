@@ -1,3 +1,4 @@
 pub mod Image
 pub mod Door
 pub mod Records
+pub mod NodePages

@@ -1,11 +1,25 @@
-//! The page map: one bit for each page.
+//! The pages of a node, and the page map: one bit for each page.
 
-use crate::definitions::Node;
+use std::ops::Range;
+
+use crate::definitions::{Node, Tree, TALLEST};
 use crate::planner::{check_reserve, check_table};
 use crate::refusal::Refusal;
 
 /// The bytes that a map takes, one bit for each page of the largest reserve.
 pub const MAP_BYTES: usize = 512;
+
+/// The pages that a node covers. A number that the tree does not have is turned down as it would be in a table.
+pub fn of_node(height: u32, node: Node) -> Result<Range<usize>, Refusal> {
+    if height > TALLEST {
+        return Err(Refusal::Height);
+    }
+    let tree = Tree::new(height);
+    if !tree.nodes().contains(&node) {
+        return Err(Refusal::Table);
+    }
+    Ok(tree.pages(node))
+}
 
 /// Draws the pages that the table's blocks cover into the front of the lent bytes. The pages that a smaller reserve
 /// does not have are drawn as free.

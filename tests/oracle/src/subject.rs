@@ -2,8 +2,8 @@
 //!
 //! [`Subject`] has one method for everything the library can be asked, over numbers and byte images as on the C side.
 //! To put a library behind it, declare its exported functions in an `extern "C"` block and write the methods as calls
-//! of them: each passes the slices on as pointer and length and turns the returned numbers into [`Reply`], [`Count`] or
-//! [`Reading`]. Nothing may be checked or repaired on the way. If a parameter is narrower than the `u32` here, say so
+//! of them: each passes the slices on as pointer and length and turns the returned numbers into [`Reply`], [`Pages`],
+//! [`Count`] or [`Reading`]. Nothing may be checked or repaired on the way. If a parameter is narrower than the `u32` here, say so
 //! in [`Subject::reach`], so that no number is handed over that the door cannot take.
 
 use crate::definitions::Node;
@@ -26,6 +26,14 @@ pub struct Reply {
     pub node: u32,
     /// How many moves stand in the lent list.
     pub moves: u32,
+}
+
+/// Which pages a node covers.
+#[derive(Clone, Copy, Debug, PartialEq, Eq)]
+pub struct Pages {
+    pub answer: u32,
+    pub first: u32,
+    pub count: u32,
 }
 
 /// What counting a map reports.
@@ -64,6 +72,9 @@ pub trait Subject {
     fn grant_pages(&mut self, height: u32, table: &mut [u8], moves: &mut [u8], tenant: u32, pages: u32) -> Reply;
 
     fn release(&mut self, height: u32, table: &mut [u8], moves: &mut [u8], tenant: u32) -> Reply;
+
+    /// Which pages a node covers in a reserve of a height; any number may be asked.
+    fn node_pages(&mut self, height: u32, node: Node) -> Pages;
 
     /// Draws the page map and gives the number answered.
     fn draw(&mut self, height: u32, table: &[u8], map: &mut [u8]) -> u32;
@@ -169,6 +180,17 @@ impl Subject for Oracle {
 
     fn release(&mut self, height: u32, table: &mut [u8], moves: &mut [u8], tenant: u32) -> Reply {
         Oracle::plan(height, table, moves, Request::Release { tenant })
+    }
+
+    fn node_pages(&mut self, height: u32, node: Node) -> Pages {
+        let result = page_map::of_node(height, node);
+        let answer = refusal::number(&result);
+        let pages = result.unwrap_or(0..0);
+        Pages {
+            answer,
+            first: pages.start as u32,
+            count: pages.len() as u32,
+        }
     }
 
     fn draw(&mut self, height: u32, table: &[u8], map: &mut [u8]) -> u32 {

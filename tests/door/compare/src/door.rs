@@ -1,7 +1,8 @@
 //! The planner behind the C door as a subject of the comparison.
 
+use oracle::definitions::Node;
 use oracle::journal::{Reading, Record};
-use oracle::subject::{Count, Reach, Reply, Subject};
+use oracle::subject::{self, Count, Reach, Reply, Subject};
 
 use crate::functions::*;
 use crate::listing;
@@ -75,6 +76,15 @@ impl Subject for Door {
         let (table, table_length) = (table.as_mut_ptr(), table.len());
         let (moves, moves_length) = (moves.as_mut_ptr(), moves.len());
         unsafe { reserve_release(narrow(height), table, table_length, moves, moves_length, narrow(tenant)) }.into()
+    }
+
+    fn node_pages(&mut self, height: u32, node: Node) -> subject::Pages {
+        let pages = unsafe { reserve_node_pages(narrow(height), node) };
+        subject::Pages {
+            answer: pages.answer.into(),
+            first: pages.first.into(),
+            count: pages.count.into(),
+        }
     }
 
     fn draw(&mut self, height: u32, table: &[u8], map: &mut [u8]) -> u32 {

@@ -8,6 +8,13 @@ pub struct Outcome {
 }
 
 #[repr(C)]
+pub struct Pages {
+    pub answer: u16,
+    pub first: u16,
+    pub count: u16,
+}
+
+#[repr(C)]
 pub struct Read {
     pub answer: u16,
     pub kind: u16,
@@ -56,6 +63,7 @@ extern "C" {
         moves_length: usize,
         tenant: u16,
     ) -> Outcome;
+    pub fn reserve_node_pages(height: u16, node: u16) -> Pages;
     pub fn reserve_draw(height: u16, table: *const u8, table_length: usize, map: *mut u8, map_length: usize) -> u16;
     pub fn reserve_count(map: *const u8, map_length: usize) -> Counted;
     pub fn reserve_read(journal: *const u8, journal_length: usize, offset: usize) -> Read;

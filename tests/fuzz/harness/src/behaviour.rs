@@ -7,10 +7,10 @@
 use std::hash::{DefaultHasher, Hash, Hasher};
 use std::ptr::addr_of_mut;
 
-use oracle::definitions::{Tree, TALLEST};
+use oracle::definitions::{Node, Tree, TALLEST};
 use oracle::journal::{Reading, Record};
 use oracle::refusal::DONE;
-use oracle::subject::{moves_from, Count, Reach, Reply, Subject};
+use oracle::subject::{moves_from, Count, Pages, Reach, Reply, Subject};
 
 const COUNTERS: usize = 1 << 13;
 
@@ -77,6 +77,10 @@ impl<S: Subject> Subject for Watched<S> {
     fn release(&mut self, height: u32, table: &mut [u8], moves: &mut [u8], tenant: u32) -> Reply {
         let reply = self.0.release(height, table, moves, tenant);
         note(Kind::Release, height, moves, reply)
+    }
+
+    fn node_pages(&mut self, height: u32, node: Node) -> Pages {
+        self.0.node_pages(height, node)
     }
 
     fn draw(&mut self, height: u32, table: &[u8], map: &mut [u8]) -> u32 {

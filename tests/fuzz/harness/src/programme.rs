@@ -3,7 +3,8 @@
 use std::fmt::{self, Display};
 
 use oracle::book::Book;
-use oracle::compare::{same_count, same_history, same_readings, same_written, shortened, Failure};
+use oracle::compare::{same_count, same_history, same_pages, same_readings, same_written, shortened, Failure};
+use oracle::definitions::Node;
 use oracle::generate::{seat, History};
 use oracle::journal::{Reading, Record, LONGEST};
 use oracle::page_map::MAP_BYTES;
@@ -30,12 +31,14 @@ pub enum Programme {
     Map(Bytes),
     /// Records to write, each into bytes of a length.
     Records(Vec<(Record, usize)>),
+    /// Heights, each with a number whose pages are asked.
+    Nodes(Vec<(u32, Node)>),
 }
 
 impl Programme {
     pub fn decode(input: &[u8]) -> Self {
         let mut tape = Tape::new(input);
-        match tape.below(8) {
+        match tape.below(9) {
             0..=2 => Programme::History(history(&mut tape)),
             3 | 4 => Programme::Spoilt(Spoilt::decode(&mut tape)),
             5 => Programme::Journal(journal(tape)),
@@ -43,7 +46,8 @@ impl Programme {
                 length: Some(tape.mostly(MAP_BYTES, &MAP_LENGTHS)),
                 period: tape.rest().to_vec(),
             }),
-            _ => Programme::Records(records(&mut tape)),
+            7 => Programme::Records(records(&mut tape)),
+            _ => Programme::Nodes(nodes(&mut tape)),
         }
     }
 
@@ -55,6 +59,7 @@ impl Programme {
             Programme::Journal(bytes) => same_journal(subject, &bytes.whole()),
             Programme::Map(bytes) => same_count(subject, &bytes.whole()),
             Programme::Records(records) => same_records(subject, records),
+            Programme::Nodes(nodes) => same_nodes(subject, nodes),
         }
     }
 
@@ -73,6 +78,7 @@ impl Programme {
             Programme::Records(records) => {
                 Programme::Records(shorten(&records, |records| same_records(subject, records).is_err()))
             }
+            Programme::Nodes(nodes) => Programme::Nodes(shorten(&nodes, |nodes| same_nodes(subject, nodes).is_err())),
         }
     }
 }
@@ -92,6 +98,12 @@ fn same_records(subject: &mut dyn Subject, records: &[(Record, usize)]) -> Resul
     })
 }
 
+fn same_nodes(subject: &mut dyn Subject, nodes: &[(u32, Node)]) -> Result<(), String> {
+    nodes
+        .iter()
+        .try_for_each(|&(height, node)| same_pages(subject, height, node))
+}
+
 impl Display for Programme {
     fn fmt(&self, f: &mut fmt::Formatter) -> fmt::Result {
         match self {
@@ -105,6 +117,9 @@ impl Display for Programme {
             Programme::Records(records) => records
                 .iter()
                 .try_for_each(|(record, length)| writeln!(f, "  write {record:?} into {length} bytes")),
+            Programme::Nodes(nodes) => nodes
+                .iter()
+                .try_for_each(|(height, node)| writeln!(f, "  pages of node {node} at height {height}")),
         }
     }
 }
@@ -162,6 +177,15 @@ fn records(tape: &mut Tape) -> Vec<(Record, usize)> {
         records.push((record, length));
     }
     records
+}
+
+fn nodes(tape: &mut Tape) -> Vec<(u32, Node)> {
+    let mut nodes = Vec::new();
+    while !tape.is_at_end() {
+        let height = tape.byte().into();
+        nodes.push((height, tape.word()));
+    }
+    nodes
 }
 
 fn offsets(length: usize) -> Vec<usize> {

@@ -8,6 +8,7 @@ mod edges;
 mod journals;
 mod lent;
 mod maps;
+mod nodes;
 
 use std::error::Error;
 use std::io::{self, Write};
@@ -18,6 +19,7 @@ use crate::subject::Subject;
 pub use calls::{same_call, same_history, same_opening, shortened, show_table, table_with, Failure, Same};
 pub use journals::{same_readings, same_written};
 pub use maps::{same_count, same_map};
+pub use nodes::same_pages;
 
 /// How much is tried, and from which seed.
 #[derive(Clone, Debug)]
@@ -91,7 +93,7 @@ pub struct Tally {
 /// One part of the comparison. It gives the number of comparisons, or what it found.
 type Part = fn(&mut dyn Subject, &Amounts, &mut Random) -> Result<usize, String>;
 
-const PARTS: [(&str, Part); 9] = [
+const PARTS: [(&str, Part); 10] = [
     ("edges of the arguments", edges::edges),
     ("every counts vector", calls::every_counts),
     ("histories", calls::histories),
@@ -101,6 +103,7 @@ const PARTS: [(&str, Part); 9] = [
     ("maps", maps::maps),
     ("journal records", journals::records),
     ("journals", journals::journals),
+    ("pages of nodes", nodes::nodes),
 ];
 
 /// The random numbers of one part, the same whichever parts ran before.

@@ -7,7 +7,8 @@ use oracle::page_map::MAP_BYTES;
 use oracle::planner::{Move, Request};
 use oracle::refusal::{Refusal, DONE};
 use oracle::subject::{
-    ask, moves_from, put_moves, table_from, table_image, Count, Oracle, Reach, Reply, Subject, MOVE_BYTES, TABLE_BYTES,
+    ask, moves_from, put_moves, table_from, table_image, Count, Oracle, Pages, Reach, Reply, Subject, MOVE_BYTES,
+    TABLE_BYTES,
 };
 
 /// The one mistake.
@@ -48,6 +49,11 @@ pub enum Fault {
     TallerTreeTaken,
     OpeningLeavesTheTable,
     OpeningWantsAnOrderlyTable,
+    // The pages of a node.
+    LastPageForTheFirst,
+    OnePageTooMany,
+    PagesOfNodeZero,
+    NodePastTheTreeTaken,
     // Maps.
     BitsFromTheTop,
     WholeMapDrawn,
@@ -109,6 +115,12 @@ impl Fault {
         Fault::TallerTreeTaken,
         Fault::OpeningLeavesTheTable,
         Fault::OpeningWantsAnOrderlyTable,
+    ];
+    pub const NODES: [Fault; 4] = [
+        Fault::LastPageForTheFirst,
+        Fault::OnePageTooMany,
+        Fault::PagesOfNodeZero,
+        Fault::NodePastTheTreeTaken,
     ];
     pub const MAPS: [Fault; 5] = [
         Fault::BitsFromTheTop,
@@ -495,6 +507,20 @@ impl Subject for Faulty {
         self.plan(height, table, moves, Request::Release { tenant })
     }
 
+    fn node_pages(&mut self, height: u32, node: Node) -> Pages {
+        let mut pages = Oracle.node_pages(height, node);
+        match self.0 {
+            Fault::LastPageForTheFirst if pages.answer == DONE => pages.first += pages.count - 1,
+            Fault::OnePageTooMany if pages.answer == DONE => pages.count += 1,
+            Fault::PagesOfNodeZero if node == 0 && height <= 12 => pages.answer = DONE,
+            Fault::NodePastTheTreeTaken if height < 12 && node == 2 << height => {
+                return Oracle.node_pages(height + 1, node);
+            }
+            _ => {}
+        }
+        pages
+    }
+
     fn draw(&mut self, height: u32, table: &[u8], map: &mut [u8]) -> u32 {
         let answer = Oracle.draw(height, table, map);
         match self.0 {
@@ -632,6 +658,10 @@ impl Subject for ThirdOfItsSize {
         Oracle.release(height, table, moves, tenant)
     }
 
+    fn node_pages(&mut self, height: u32, node: Node) -> Pages {
+        Oracle.node_pages(height, node)
+    }
+
     fn draw(&mut self, height: u32, table: &[u8], map: &mut [u8]) -> u32 {
         Oracle.draw(height, table, map)
     }
@@ -686,6 +716,10 @@ impl Subject for Narrow {
 
     fn release(&mut self, height: u32, table: &mut [u8], moves: &mut [u8], tenant: u32) -> Reply {
         Oracle.release(eight_bits(height), table, moves, sixteen_bits(tenant))
+    }
+
+    fn node_pages(&mut self, height: u32, node: Node) -> Pages {
+        Oracle.node_pages(eight_bits(height), node)
     }
 
     fn draw(&mut self, height: u32, table: &[u8], map: &mut [u8]) -> u32 {
