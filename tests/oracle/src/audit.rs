@@ -3,8 +3,9 @@
 //! Nothing here plans: the moves are held against the differences of the tables and against the rules for who stays,
 //! who goes where, in which order, and how many may be moved at all.
 
-use crate::book::level_wanted;
+use crate::book::{level_wanted, occupied};
 use crate::definitions::{Node, Tree};
+use crate::occupancy::is_legal_and_safe;
 use crate::planner::{Move, Request};
 use crate::refusal::DONE;
 
@@ -13,6 +14,12 @@ pub const MOST_FOR_GRANT: usize = 3;
 
 /// The most tenants that a release may move.
 pub const MOST_FOR_RELEASE: usize = 4;
+
+/// Whether a table may stay as it is, by the definitions alone; otherwise it is refused.
+pub fn is_in_order(tree: Tree, table: &[Node]) -> bool {
+    let held = occupied(table);
+    held.iter().all(|&node| node <= tree.last_node()) && is_legal_and_safe(tree, &held)
+}
 
 /// A planning call as seen from outside.
 #[derive(Clone, Copy, Debug)]

@@ -3,13 +3,11 @@
 //! It never plans. From what it has written down it can still tell the answer of every call of a history and which
 //! places must be occupied, so it stands as a third opinion beside two planners.
 
-use crate::definitions::{is_legal, Counts, Node, Tree};
+use crate::definitions::{Counts, Node, Tree};
 use crate::lifting;
+use crate::occupancy::is_legal_and_safe;
 use crate::planner::{level_for_pages, Request, FEWEST_ENTRIES, TENANTS};
 use crate::refusal::{Refusal, DONE};
-
-/// Up to this height the places are also judged by the bare definitions.
-const SMALL: u32 = 5;
 
 #[derive(Clone, Debug)]
 pub struct Book {
@@ -115,7 +113,8 @@ impl Book {
         self.counts[level as usize] -= 1;
     }
 
-    /// Whether a table shows what the book says: everybody's level, and the only safe places for so many blocks.
+    /// Whether a table shows what the book says: everybody's level, and the only safe places for so many blocks, by the
+    /// lifting rule and by the definitions.
     pub fn audit(&self, table: &[Node]) -> Result<(), String> {
         for (tenant, (&node, &level)) in table.iter().zip(&self.levels).enumerate() {
             let shown = (node != 0).then(|| self.tree.level(node));
@@ -130,12 +129,7 @@ impl Book {
             safe.as_ref() == Some(&held),
             "the places are {held:?}, the safe ones {safe:?}"
         );
-        if self.tree.height() <= SMALL {
-            ensure!(
-                is_legal(&held) && self.tree.is_safe(&held),
-                "the places {held:?} are not safe"
-            );
-        }
+        ensure!(is_legal_and_safe(self.tree, &held), "the places {held:?} are not safe");
         Ok(())
     }
 }

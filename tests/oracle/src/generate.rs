@@ -526,11 +526,16 @@ pub fn damage_journal(random: &mut Random, journal: &mut Vec<u8>) {
 /// Bytes that are no journal except by accident.
 pub fn noise(random: &mut Random) -> Vec<u8> {
     let length = random.index(40);
-    let mut bytes: Vec<u8> = (0..length).map(|_| random.below(6) as u8).collect();
+    let mut bytes = noise_of(random, length);
     if random.one_in(2) && !bytes.is_empty() {
         bytes[0] = 1;
     }
     bytes
+}
+
+/// So many bytes of which most are kinds.
+pub fn noise_of(random: &mut Random, length: usize) -> Vec<u8> {
+    (0..length).map(|_| random.below(6) as u8).collect()
 }
 
 /// A journal of just this length, with nothing wrong but perhaps its length.

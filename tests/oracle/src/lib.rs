@@ -4,7 +4,7 @@
 //! use is to be believed when it disagrees with the planner that ships:
 //!
 //! - [`definitions`] has the words about sets of nodes (legal, dense, safe, ...) exactly as they are defined, and for
-//!   small trees every set there is;
+//!   small trees every set there is; [`occupancy`] has the words for tall trees, where nodes are counted beforehand;
 //! - [`lifting`] builds the safe layout of any counts on a row of labelled pages, by the lifting rule;
 //! - [`planner`] has the calls with their refusals, pairing and moves, [`page_map`] the map, [`journal`] and
 //!   [`listing`] the journal;
@@ -31,6 +31,7 @@ pub mod generate;
 pub mod journal;
 pub mod lifting;
 pub mod listing;
+pub mod occupancy;
 pub mod page_map;
 pub mod planner;
 pub mod random;

@@ -4,9 +4,9 @@ mod small;
 
 use std::collections::{BTreeMap, BTreeSet};
 
-use oracle::audit::{audit, Seen, MOST_FOR_GRANT, MOST_FOR_RELEASE};
+use oracle::audit::{audit, is_in_order, Seen, MOST_FOR_GRANT, MOST_FOR_RELEASE};
 use oracle::book::{level_wanted, occupied, Book};
-use oracle::definitions::{is_legal, Node, Tree, TALLEST};
+use oracle::definitions::{Node, Tree, TALLEST};
 use oracle::generate::{any_fill, history, history_on_full, holders_for, seat, steer, Call, Damage, History};
 use oracle::planner::{self, Lent, Outcome, Request, TENANTS};
 use oracle::random::Random;
@@ -104,7 +104,7 @@ impl Trial {
     }
 }
 
-/// Up to height 5 the book judges the places by the bare definitions after every single call.
+/// The book judges the places by the definitions after every single call, up to height 5 by the bare ones.
 #[test]
 fn small_histories_stay_safe() {
     let mut trial = Trial::new(11);
@@ -113,7 +113,7 @@ fn small_histories_stay_safe() {
 }
 
 #[test]
-fn large_histories_keep_the_layout() {
+fn large_histories_stay_safe() {
     let mut trial = Trial::new(12);
     for height in 6..=TALLEST {
         (0..4).for_each(|_| trial.after_opening(height, 400));
@@ -186,12 +186,6 @@ fn equal_holdings_mean_equal_places() {
     }
 }
 
-/// Whether a table may stay as it is, by the definitions alone.
-fn is_in_order(tree: Tree, table: &[Node]) -> bool {
-    let held = occupied(table);
-    held.iter().all(|&node| node <= tree.last_node()) && is_legal(&held) && tree.is_safe(&held)
-}
-
 fn answer_of_release(tree: Tree, table: &[Node]) -> u32 {
     let lent = Lent {
         height: tree.height(),
@@ -231,7 +225,7 @@ fn damaged_tables_are_judged_as_by_the_definitions() {
     let mut random = Random::new(seed);
     let mut inflicted = BTreeSet::new();
     for round in 0..6_000 {
-        let tree = Tree::new(round % 6);
+        let tree = Tree::new(round % (TALLEST + 1));
         let damage = random.pick(&Damage::ALL);
         let counts = any_fill(&mut random, tree);
         let mut table = seat(tree, &holders_for(&mut random, &counts));
@@ -241,8 +235,9 @@ fn damaged_tables_are_judged_as_by_the_definitions() {
         let in_order = is_in_order(tree, &table);
         assert!(!(in_order && damage.is_certain()), "{damage:?}");
         assert_eq!(answer_of_release(tree, &table) == 7, !in_order, "{damage:?}");
-        inflicted.insert(format!("{damage:?} {in_order}"));
+        let is_tall = tree.height() >= 9;
+        inflicted.insert(format!("{damage:?} {in_order}, tall {is_tall}"));
     }
-    // Every kind of damage came up, and a changed entry with both outcomes.
-    assert_eq!(inflicted.len(), 5, "{inflicted:?}");
+    // Every kind of damage came up, and a changed entry with both outcomes, on low trees and on tall ones.
+    assert_eq!(inflicted.len(), 10, "{inflicted:?}");
 }

@@ -2,8 +2,10 @@
 
 mod small;
 
-use oracle::definitions::{depth, families, is_free, is_legal, is_meager, is_under, Counts, Family, Tree};
+use oracle::definitions::{depth, families, is_free, is_legal, is_meager, is_under, Counts, Family, Node, Tree};
+use oracle::generate::any_fill;
 use oracle::lifting::layout;
+use oracle::occupancy::{is_legal_and_safe, Occupancy};
 use oracle::random::Random;
 use small::{trees, trees_with_counts};
 
@@ -167,6 +169,61 @@ fn lifting_is_safe_for_random_counts_at_heights_6_to_8() {
             room -= number << level;
         }
         assert_layout_is_the_safe_one(tree, &counts);
+    }
+}
+
+/// Bare definitions are too slow here.
+#[test]
+fn lifting_is_safe_for_random_counts_at_heights_9_to_12() {
+    let mut random = Random::new(912);
+    for round in 0..400 {
+        let tree = Tree::new(9 + round % 4);
+        let counts = any_fill(&mut random, tree);
+        let held = layout(tree, &counts).unwrap_or_else(|| panic!("no layout for {counts:?}"));
+        assert_eq!(tree.counts(&held), counts);
+        assert!(is_legal_and_safe(tree, &held), "{counts:?}: {held:?}");
+    }
+}
+
+/// Counted beforehand, every word says what its definition says.
+fn assert_counted_as_defined(tree: Tree, held: &[Node]) {
+    let occupancy = Occupancy::new(tree, held);
+    for node in tree.nodes() {
+        assert_eq!(occupancy.is_free(node), is_free(held, node), "{held:?}: {node}");
+        assert_eq!(occupancy.is_meager(node), is_meager(held, node), "{held:?}: {node}");
+        assert_eq!(occupancy.tails(node), tree.tails(held, node), "{held:?}: {node}");
+    }
+    assert_eq!(occupancy.is_legal(), is_legal(held), "{held:?}");
+    assert_eq!(occupancy.is_dense(), tree.is_dense(held), "{held:?}");
+    assert_eq!(occupancy.is_safe(), tree.is_safe(held), "{held:?}");
+}
+
+#[test]
+fn all_sets_up_to_height_3_are_counted_as_defined() {
+    for tree in trees(0..=3) {
+        tree.every_set().for_each(|held| assert_counted_as_defined(tree, &held));
+    }
+}
+
+/// Lists of any nodes, some twice; and safe layouts with a few nodes changed, which stay safe, legal or dense now and
+/// then.
+#[test]
+fn random_lists_up_to_height_7_are_counted_as_defined() {
+    let mut random = Random::new(407);
+    for round in 0..1_200 {
+        let tree = Tree::new(4 + round % 4);
+        let any_node = |random: &mut Random| 1 + random.below(tree.last_node().into()) as Node;
+        let mut held = match round % 3 {
+            0 => (0..random.below(20)).map(|_| any_node(&mut random)).collect(),
+            _ => layout(tree, &any_fill(&mut random, tree)).expect("counts that fit"),
+        };
+        for _ in 0..random.below(3) {
+            match held.len() {
+                0 => held.push(any_node(&mut random)),
+                length => held[random.index(length)] = any_node(&mut random),
+            }
+        }
+        assert_counted_as_defined(tree, &held);
     }
 }
 

@@ -88,8 +88,7 @@ fn told<T>(result: Result<T, Failure>) -> Result<(), String> {
 }
 
 fn same_journal(subject: &mut dyn Subject, journal: &[u8]) -> Result<(), String> {
-    let offsets = offsets(journal.len());
-    same_readings(subject, journal, &offsets)
+    same_readings(subject, journal, offsets(journal.len()))
 }
 
 fn same_records(subject: &mut dyn Subject, records: &[(Record, usize)]) -> Result<(), String> {

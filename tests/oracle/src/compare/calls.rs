@@ -5,7 +5,7 @@ use std::fmt;
 use super::lent::{pattern, Lent};
 use super::maps::same_map;
 use super::Amounts;
-use crate::audit::{audit, Seen, MOST_FOR_GRANT};
+use crate::audit::{audit, is_in_order, Seen, MOST_FOR_GRANT};
 use crate::book::{level_wanted, occupied, Book};
 use crate::definitions::{Node, Tree, TALLEST};
 use crate::generate::{any_fill, history, history_on_full, holders_for, seat, steer, Call, Damage, History};
@@ -236,7 +236,7 @@ pub fn full_reserves(subject: &mut dyn Subject, amounts: &Amounts, random: &mut 
     Ok(comparisons)
 }
 
-/// Spoilt tables, with calls of every kind on them.
+/// Spoilt tables, with calls of every kind on them. Whether a table is refused is held against the definitions.
 pub fn damaged_tables(subject: &mut dyn Subject, amounts: &Amounts, random: &mut Random) -> Result<usize, String> {
     let mut comparisons = 0;
     for round in 0..amounts.damaged_tables {
@@ -247,8 +247,9 @@ pub fn damaged_tables(subject: &mut dyn Subject, amounts: &Amounts, random: &mut
         if !damage.inflict(random, tree, &mut table) {
             continue;
         }
+        let in_order = is_in_order(tree, &table);
         for request in requests_on(random, tree, &table) {
-            check_damaged(subject, tree, &table, damage, request)?;
+            check_damaged(subject, tree, &table, in_order, request)?;
             comparisons += 1;
         }
         same_map(subject, tree.height(), &table_image(&table), 512)
@@ -283,7 +284,7 @@ fn check_damaged(
     subject: &mut dyn Subject,
     tree: Tree,
     table: &[Node],
-    damage: Damage,
+    in_order: bool,
     request: Request,
 ) -> Result<(), String> {
     let call = Call {
@@ -293,9 +294,10 @@ fn check_damaged(
     let mut finding =
         |table: &[Node]| same_call(subject, tree.height(), &table_image(table), &call).map(|same| same.reply.answer);
     match finding(table) {
-        Ok(answer) if damage.is_certain() && answer != Refusal::Table.number() => {
-            Err(format!("{}: both answer {answer} to {call}", show_table(tree, table)))
-        }
+        Ok(answer) if in_order == (answer == Refusal::Table.number()) => Err(format!(
+            "{}: both answer {answer} to {call}, and in order by the definitions is {in_order}",
+            show_table(tree, table)
+        )),
         Ok(_) => Ok(()),
         Err(_) => {
             let entries: Vec<(usize, Node)> = table.iter().copied().enumerate().filter(|&(_, n)| n != 0).collect();

@@ -2,17 +2,20 @@
 
 use super::lent::{pattern, Lent};
 use super::Amounts;
-use crate::generate::{damage_journal, journal, journal_of, noise};
+use crate::generate::{damage_journal, journal, journal_of, noise, noise_of};
 use crate::journal::{Reading, Record, LONGEST};
 use crate::random::Random;
 use crate::refusal::DONE;
 use crate::shrink::shorten;
 use crate::subject::{Oracle, Subject};
 
-/// Journals up to this length are read at every offset.
+/// Journals up to this length are shown if they fail.
 const SHORT: usize = 400;
 
-/// Records with edge values and random ones, written into lent bytes of all lengths.
+/// Bytes to write into that are far longer than any record.
+const LONG: [usize; 5] = [9, 64, 4_096, LONGEST, LONGEST + 1];
+
+/// Records with edge values and random ones, written into lent bytes of all lengths that matter and into long ones.
 pub fn records(subject: &mut dyn Subject, amounts: &Amounts, random: &mut Random) -> Result<usize, String> {
     let mut comparisons = 0;
     for round in 0..amounts.journals {
@@ -33,8 +36,10 @@ pub fn records(subject: &mut dyn Subject, amounts: &Amounts, random: &mut Random
             },
             Record::Release { tenant: word },
         ];
+        // Long bytes are all the same to a record's fields, so a few records are enough there.
+        let long = if round < 20 { &LONG[..] } else { &[] };
         for record in records {
-            for length in 0..8 {
+            for length in (0..8).chain(long.iter().copied()) {
                 same_written(subject, &record, length)
                     .map_err(|finding| format!("  {record:?} into {length} bytes: {finding}"))?;
                 comparisons += 1;
@@ -68,13 +73,14 @@ pub fn journals(subject: &mut dyn Subject, amounts: &Amounts, random: &mut Rando
         for _ in 0..round % 4 / 2 {
             damage_journal(random, &mut bytes);
         }
-        comparisons += check_journal(subject, random, &bytes)?;
+        comparisons += check_journal(subject, &bytes)?;
     }
     // Long journals come last, because what goes wrong in a short one too is better seen there.
     Ok(comparisons + journal_edges(subject, random)?)
 }
 
-/// The longest journals, those that are too long, and those that are wrong in more than one way.
+/// The longest journals, those that are too long, and those that are wrong in more than one way. The long ones have records
+/// one after the other, or noise with a record of some kind at most offsets.
 fn journal_edges(subject: &mut dyn Subject, random: &mut Random) -> Result<usize, String> {
     let mut comparisons = 0;
     let short: [&[u8]; 10] = [
@@ -90,59 +96,51 @@ fn journal_edges(subject: &mut dyn Subject, random: &mut Random) -> Result<usize
         &[1, 1, 1, 1, 1],
     ];
     for bytes in short {
-        comparisons += check_journal(subject, random, bytes)?;
+        comparisons += check_journal(subject, bytes)?;
     }
     for length in LONGEST - 1..=LONGEST + 2 {
-        let mut bytes = journal_of(length);
-        comparisons += check_journal(subject, random, &bytes)?;
-        bytes[0] = 9;
-        comparisons += check_journal(subject, random, &bytes)?;
+        for mut bytes in [journal_of(length), noise_of(random, length)] {
+            bytes[0] = 1;
+            comparisons += check_journal(subject, &bytes)?;
+            bytes[0] = 9;
+            comparisons += check_journal(subject, &bytes)?;
+        }
     }
     Ok(comparisons)
 }
 
 /// Compares all that can be had from a journal, and shows a short one that fails if this one does.
-fn check_journal(subject: &mut dyn Subject, random: &mut Random, bytes: &[u8]) -> Result<usize, String> {
-    let offsets = offsets_to_try(random, bytes.len());
-    let Err(finding) = same_journal(subject, bytes, &offsets) else {
-        return Ok(offsets.len() + 1);
+fn check_journal(subject: &mut dyn Subject, bytes: &[u8]) -> Result<usize, String> {
+    let Err(finding) = same_journal(subject, bytes) else {
+        return Ok(offsets_of(bytes).count() + 1);
     };
     // A journal that only fails for being too long cannot be shown in few bytes, and need not be.
     if bytes.len() > SHORT {
         return Err(format!("  a journal of {} bytes: {finding}", bytes.len()));
     }
-    let all_offsets = |bytes: &[u8]| offsets_to_try(&mut Random::new(0), bytes.len());
-    let short = shorten(bytes, |bytes| {
-        same_journal(subject, bytes, &all_offsets(bytes)).is_err()
-    });
-    let finding = same_journal(subject, &short, &all_offsets(&short))
-        .err()
-        .unwrap_or(finding);
+    let short = shorten(bytes, |bytes| same_journal(subject, bytes).is_err());
+    let finding = same_journal(subject, &short).err().unwrap_or(finding);
     Err(format!("  journal {short:?}: {finding}"))
 }
 
-/// All offsets of a short journal, some of a long one, and some past the end.
-fn offsets_to_try(random: &mut Random, length: usize) -> Vec<usize> {
-    let mut offsets: Vec<usize> = if length <= SHORT {
-        (0..=length).collect()
-    } else {
-        let middle = (0..40).map(|_| random.index(length));
-        middle
-            .chain([0, 1, 2, length - 3, length - 2, length - 1, length])
-            .collect()
-    };
-    offsets.extend([length + 1, length + 2, LONGEST, LONGEST + 1, usize::MAX]);
-    offsets
+/// All offsets of a journal, and some past its end.
+fn offsets_of(bytes: &[u8]) -> impl Iterator<Item = usize> {
+    let length = bytes.len();
+    (0..=length + 2).chain([LONGEST, LONGEST + 1, usize::MAX])
 }
 
-fn same_journal(subject: &mut dyn Subject, bytes: &[u8], offsets: &[usize]) -> Result<(), String> {
-    same_readings(subject, bytes, offsets)?;
+fn same_journal(subject: &mut dyn Subject, bytes: &[u8]) -> Result<(), String> {
+    same_readings(subject, bytes, offsets_of(bytes))?;
     same_listing(&subject.list(bytes), &Oracle.list(bytes))
 }
 
 /// Has both planners read a journal at some offsets, and what is a record there written back.
-pub fn same_readings(subject: &mut dyn Subject, bytes: &[u8], offsets: &[usize]) -> Result<(), String> {
-    for &offset in offsets {
+pub fn same_readings(
+    subject: &mut dyn Subject,
+    bytes: &[u8],
+    offsets: impl IntoIterator<Item = usize>,
+) -> Result<(), String> {
+    for offset in offsets {
         let right = Oracle.read(bytes, offset);
         let reading = subject.read(bytes, offset);
         ensure!(

@@ -70,6 +70,8 @@ pub enum Fault {
     HighByteFirst,
     PartlyWritten,
     RestOfTheBytesCleared,
+    BytesFarBehindCleared,
+    OneOffsetMisread,
     // The listing.
     LineForTheRefusedOpening,
     RefusedCallsLeftOut,
@@ -129,7 +131,7 @@ impl Fault {
         Fault::AnyTableDrawn,
         Fault::MapBeforeTheTable,
     ];
-    pub const JOURNALS: [Fault; 9] = [
+    pub const JOURNALS: [Fault; 11] = [
         Fault::FirstKindBeforeLength,
         Fault::EndBeforeTheWholeJournal,
         Fault::LengthLeftOut,
@@ -139,6 +141,8 @@ impl Fault {
         Fault::HighByteFirst,
         Fault::PartlyWritten,
         Fault::RestOfTheBytesCleared,
+        Fault::BytesFarBehindCleared,
+        Fault::OneOffsetMisread,
     ];
     pub const LISTINGS: [Fault; 4] = [
         Fault::LineForTheRefusedOpening,
@@ -571,6 +575,7 @@ impl Subject for Faulty {
                 refused(Refusal::CutShort, offset)
             }
             Fault::RefusalAtTheWrongOffset if is(Refusal::CutShort) => refused(Refusal::CutShort, journal.len()),
+            Fault::OneOffsetMisread if offset == 43_210 => Oracle.read(journal, offset + 1),
             _ => honest,
         }
     }
@@ -581,6 +586,7 @@ impl Subject for Faulty {
             (Fault::HighByteFirst, Record::Release { .. }) if answer == DONE => lent[1..3].reverse(),
             (Fault::PartlyWritten, _) if answer != DONE && !lent.is_empty() => lent[0] = record.bytes()[0],
             (Fault::RestOfTheBytesCleared, _) if answer == DONE => lent[record.bytes().len()..].fill(0),
+            (Fault::BytesFarBehindCleared, _) if lent.len() > 5_000 => lent[5_000..].fill(0),
             _ => {}
         }
         answer
