@@ -5,6 +5,8 @@
 rust=$(sed -n 's/^rust-version = "\(.*\)"$/\1/p' tests/oracle/Cargo.toml)
 passed=0
 failed=0
+# what stands before the name of a part
+mark=--
 log=$(mktemp)
 trap 'rm -f "$log"' EXIT
 
@@ -13,7 +15,7 @@ source_of() {
   case $1 in
   rt) echo ": it is the Rattle kit's" ;;
   cargo | rustc) echo " $rust: rustup toolchain install $rust (https://rustup.rs)" ;;
-  nm) echo ": apt-get install binutils" ;;
+  nm | readelf) echo ": apt-get install binutils" ;;
   cmp | diff) echo ": apt-get install diffutils" ;;
   *) echo ": apt-get install $1" ;;
   esac
@@ -85,7 +87,7 @@ one() {
 many() {
   local name=$1 code ok bad
   shift
-  echo "-- $name"
+  echo "$mark $name"
   "$@" 2>&1 | tee "$log"
   code=${PIPESTATUS[0]}
   read -r ok bad < <(tail -n 1 "$log" | sed -n 's/^\([0-9]\+\) passed, \([0-9]\+\) failed$/\1 \2/p')
