@@ -1,6 +1,7 @@
 // The pages of a node through the C door.
 ghost use mathlib.Core.Path.{_≡_};
 ghost use Rattle.reserve.specs.NodePages.{noPages, nodePages};
+use layout::MAX_HEIGHT;
 use layout::power;
 use tree::depth;
 
@@ -17,7 +18,7 @@ pub struct Pages {
 pub extern "C" fn reserve_node_pages(height: u16, node: u16) -> Pages
     ensures { λ r. ⌜ r ≡ nodePages height node ⌝ }
 {
-    if 12 < height {
+    if MAX_HEIGHT < height {
         return no_pages(refusal::HEIGHT);
     }
     if node == 0 {
