@@ -1,7 +1,7 @@
-"""Runs the program `listing` and compares every byte that it writes. Usage: listing.py LISTING ORACLE EXAMPLES
+"""Runs the program `listing` and compares every byte that it writes. Usage: listing.py LISTING ORACLE CLOSE EXAMPLES
 
-The second planner, ORACLE, gives the listings of the long journals, and the folder EXAMPLES has journals with theirs. A check that fails prints
-its name and the first difference. The last line is 'N passed, M failed'.
+The second planner, ORACLE, gives the listings of the long journals, the library CLOSE is close.c, and the folder EXAMPLES has journals with their
+listings. A check that fails prints its name and the first difference. The last line is 'N passed, M failed'.
 """
 
 import concurrent.futures
@@ -21,7 +21,7 @@ import termios
 import time
 import traceback
 
-LISTING, ORACLE, EXAMPLES = (os.path.abspath(path) for path in sys.argv[1:])
+LISTING, ORACLE, CLOSE, EXAMPLES = (os.path.abspath(path) for path in sys.argv[1:])
 USAGE = b"usage: listing [FILE]\nLists the journal in FILE, or on standard input if there is no FILE or it is -.\n"
 BLOCK = 65536  # bytes that the program writes at once, at most
 PATIENCE = 60  # seconds after which a program that does not end is stopped, and its check fails
@@ -291,6 +291,9 @@ def check_writing(folder, journal, listing):
     with check("standard output closed"):
         program = start(str(source), preexec_fn=lambda: os.close(1))
         ends_with(program, b"", b"listing: cannot write standard output: Bad file descriptor\n")
+    with check("a failure that is told when standard output is closed"):
+        program = start(str(source), env={"LD_PRELOAD": CLOSE})
+        ends_with(program, listing, b"listing: cannot write standard output: Disk quota exceeded\n")
     for name, restored, error, status in (
         ("a reader that leaves, with SIGPIPE ignored", False, b"listing: cannot write standard output: Broken pipe\n", 0),
         ("a reader that leaves, which ends the program", True, b"", -signal.SIGPIPE),

@@ -17,6 +17,7 @@ pub fn has_work(program: &[u8], usage: &[u8], least: usize, most: usize) -> bool
     let given = arguments();
     if given > 0 && asks_for_help() {
         write_output(program, usage);
+        close_output(program);
         return false;
     }
     if given < least || given > most || has_option(given) {
@@ -51,6 +52,7 @@ fn has_option(given: usize) -> bool {
     false
 }
 
+// Whether argument `i` is an option.
 fn is_option_at(i: usize) -> bool {
     let mut text = io::buffer();
     let n = argument(i, &mut text);
@@ -108,4 +110,12 @@ pub fn write_output(program: &[u8], bytes: &[u8]) -> bool {
         complain(program, b"write", b"standard output");
     }
     written
+}
+
+// Closes standard output, and says on standard error if that fails: some systems tell only then that a write failed. If it was closed from the
+// start, whoever wrote to it has been told.
+pub fn close_output(program: &[u8]) {
+    if libc::close(libc::STDOUT_FILENO) < 0 && os::errno() != libc::EBADF {
+        complain(program, b"write", b"standard output");
+    }
 }

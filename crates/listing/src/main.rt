@@ -16,6 +16,7 @@ fn main() {
     };
     let mut table = [0u16; 4096];
     list(&input[..n], &mut table);
+    command::close_output(b"listing");
 }
 
 // Writes the listing of a journal, block by block. A write that fails ends it.

@@ -57,6 +57,12 @@ slice-aggregate-list-2 c = search needs
 list-requires : tie.Need-list-requires
 list-requires c κs = search needs
 
+slice-aggregate-close-output : tie.Need-slice-aggregate-close-output
+slice-aggregate-close-output c = search needs
+
+close-output-requires : tie.Need-close-output-requires
+close-output-requires c κs = search needs
+
 returns-3 : tie.Need-returns-3
 returns-3 c = search needs
 
@@ -82,4 +88,6 @@ main-spec =
     slice-aggregate-list
     slice-aggregate-list-2
     list-requires
+    slice-aggregate-close-output
+    close-output-requires
     returns-3)
