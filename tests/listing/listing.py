@@ -173,10 +173,11 @@ def check(name):
             traceback.print_exc(file=sys.stdout)
 
 
-def ends_with(program, out, error):
+def ends_with(program, out, error, status=0):
     got_out, got_error = end(program)
     equal("standard error", got_error, error)
     equal("standard output", got_out or b"", out)
+    assert program.returncode == status, f"the exit status is {program.returncode} and should be {status}"
 
 
 def check_listed(name, folder, journal, listing):
@@ -303,8 +304,7 @@ def check_writing(folder, journal, listing):
             equal("what was read", program.stdout.read(7 * BLOCK + 1), listing[: 7 * BLOCK + 1])
             program.stdout.close()
             program.stdout = None
-            ends_with(program, b"", error)
-            assert program.returncode == status, program.returncode
+            ends_with(program, b"", error, status)
     with check("writes that are interrupted"):
         ours, its = sockets(limit=socket.SO_SNDTIMEO)
         program = start(str(source), stdout=its)

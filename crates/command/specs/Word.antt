@@ -4,7 +4,7 @@ use mathlib.Core.List.{List, [], _∷_}
 use Prim.Native.Nat.{ℕ}
 use lib.Dec.{eqb}
 
--- an option begins with a hyphen, and is more than that
+-- an option begins with a hyphen, whose code is 45, and has more after it
 abbrev pub isOption : List ℕ → Bool
 isOption [] = false
 isOption (first ∷ []) = false
