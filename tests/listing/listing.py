@@ -109,17 +109,21 @@ def end(program):
         return out, error + b"(stopped after %d seconds)" % PATIENCE
 
 
+def state(program):
+    """The letter that the system has for it: S sleeps, T is stopped, Z has ended."""
+    if program.poll() is not None:
+        return "Z"
+    return pathlib.Path(f"/proc/{program.pid}/stat").read_text().rpartition(")")[2].split()[0]
+
+
 def wait_until(program, what, condition):
+    """Waits until the condition holds. A program that has ended is for the comparison of what it wrote."""
     for _ in range(PATIENCE * 2000):
-        if condition():
+        if condition() or state(program) == "Z":
             return
         time.sleep(0.0005)
     program.kill()
     raise AssertionError(f"{what} not within {PATIENCE} seconds")
-
-
-def state(program):
-    return pathlib.Path(f"/proc/{program.pid}/stat").read_text().rpartition(")")[2].split()[0]
 
 
 def interrupt(program):
