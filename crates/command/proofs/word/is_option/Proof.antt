@@ -22,13 +22,13 @@ long-is-option-by-first (x ∷ []) h = absurd (omega arith)
 long-is-option-by-first (x ∷ (y ∷ s)) h = refl
 
 returns : tie.Need-returns
-returns c = short-is-no-option (c .before .args .word .now) (c .if1 .taken)
+returns c = short-is-no-option (c .before .args .word .now) (omega arith)
 
 shared-slice-read-result : tie.Need-shared-slice-read-result
 shared-slice-read-result c = search needs
 
 returns-2 : tie.Need-returns-2
-returns-2 c = long-is-option-by-first (c .before .before .args .word .now) (c .before .if1 .left)
+returns-2 c = long-is-option-by-first (c .before .before .args .word .now) (omega arith)
 
 pub is-option-spec : {M : Type 1} → statement M
 is-option-spec = tie.close (tie.spec returns shared-slice-read-result returns-2)
