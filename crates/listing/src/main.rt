@@ -1,21 +1,22 @@
-// Lists the journal on standard input, on standard output.
+// Lists a journal on standard output: that in the file that the argument names, or that on standard input.
+use command::Input;
 
 fn main() {
-    let mut input = [0u8; 65537];
-    let n = io::read_full(0, &mut input);
-    if read_failed(&mut input, n) {
+    let usage =
+        b"usage: listing [FILE]\nLists the journal in FILE, or on standard input if there is no FILE or it is -.\n";
+    if !command::has_work(b"listing", usage, 0, 1) {
         return;
     }
+    let mut name = io::buffer();
+    let length = command::argument(1, &mut name);
+    let mut input = [0u8; 65537];
+    let read = command::read_input(b"listing", &name[..length], &mut input);
+    let Input::Whole(n) = read else {
+        return;
+    };
     let mut table = [0u16; 4096];
     list(&input[..n], &mut table);
-}
-
-// Whether reading stopped at `n` bytes with neither a full buffer nor the end of the input: at the end, one more read finds nothing.
-fn read_failed(input: &mut [u8], n: usize) -> bool {
-    if input.len() <= n {
-        return false;
-    }
-    libc::read(0, &mut input[n..]) != 0
+    command::close_output(b"listing");
 }
 
 // Writes the listing of a journal, block by block. A write that fails ends it.
@@ -25,7 +26,7 @@ fn list(journal: &[u8], table: &mut [u16]) {
     loop {
         let filled = replay::fill(state, journal, table, &mut block);
         let length = filled.length;
-        if !io::write_all(1, &block[..length]) {
+        if !write_all(&block[..length]) {
             return;
         }
         if !filled.on {
@@ -33,4 +34,8 @@ fn list(journal: &[u8], table: &mut [u16]) {
         }
         state = filled.state;
     }
+}
+
+fn write_all(bytes: &[u8]) -> bool {
+    command::write_output(b"listing", bytes)
 }
