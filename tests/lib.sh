@@ -69,6 +69,12 @@ step() {
   give_up
 }
 
+# build_program NAME: proves and builds a program; rt passes over a crate that has not changed, though its program be gone
+build_program() {
+  [ -x "target/bin/$1" ] || rm -f "target/stamp/$1"
+  rt check "$1"
+}
+
 # one NAME COMMAND..: one check, which passes if the command does; its output is shown if not
 one() {
   local name=$1
