@@ -18,6 +18,7 @@ use refusal::HOLDS;
 use refusal::HOLDS_NONE;
 use refusal::NO_ROOM;
 use refusal::NOT_IN_ORDER;
+use table::NODES;
 
 // Whether the reserve has room for one block more on the level.
 fn has_room(height: u16, counts: Counts, level: u16) -> bool
@@ -37,7 +38,7 @@ pub fn change(height: u16, table: &mut [u16], tenant: u16, wanted: u16) -> Calle
     requires level { ⌜ (¬ (wanted ≡ no-level) → wanted ≤ height) ⌝ }
     ensures { λ r. ⌜ Gives (changeOn height (now (table .entry)) tenant wanted) r (now (table .exit)) ⌝ }
 {
-    let mut owners = [0u16; 8192];
+    let mut owners = [0u16; NODES];
     let found = survey::survey(height, table, &mut owners);
     if !found.in_order {
         return refused(NOT_IN_ORDER);
@@ -56,7 +57,7 @@ fn grant(
     tenant: u16,
     level: u16,
     counts: Counts,
-    owners: &[u16; 8192],
+    owners: &[u16; NODES],
 ) -> Called
     requires ready { ⌜ Ready height (now table) tenant ⌝ }
     requires level { ⌜ level ≤ height ⌝ }
@@ -87,7 +88,7 @@ fn give_up(
     table: &mut [u16],
     tenant: u16,
     counts: Counts,
-    owners: &[u16; 8192],
+    owners: &[u16; NODES],
 ) -> Called
     requires ready { ⌜ Ready height (now table) tenant ⌝ }
     requires looked { ⌜ Looked height (now table) (counts .at) (now owners) ⌝ }

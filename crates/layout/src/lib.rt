@@ -14,19 +14,22 @@ pub const NONE: u16 = 65_535;
 // The greatest height of a reserve.
 pub const MAX_HEIGHT: u16 = 12;
 
+// How many levels a reserve can have: those from 0 to the greatest height.
+pub const LEVELS: usize = 13;
+
 // A level that no reserve has: where no level is wanted.
 pub const NO_LEVEL: u16 = 13;
 
 // How many blocks each level has.
 pub struct Counts {
-    pub at: [u16; 13],
+    pub at: [u16; LEVELS],
 }
 
 // For each level, the index where its run of blocks begins, how many blocks the run has, and the index of the block that became lone, or NONE.
 pub struct Layout {
-    pub start: [u16; 13],
-    pub run: [u16; 13],
-    pub lone: [u16; 13],
+    pub start: [u16; LEVELS],
+    pub run: [u16; LEVELS],
+    pub lone: [u16; LEVELS],
 }
 
 impl Counts {
@@ -34,7 +37,7 @@ impl Counts {
     pub fn none() -> Counts
         ensures { λ r. ⌜ r .at ≡ replicate 13 0 ⌝ }
     {
-        Counts { at: [0; 13] }
+        Counts { at: [0; LEVELS] }
     }
 
     // The counts with one block more on the level; the same where it has 65,535 or there is no such level.
@@ -43,7 +46,7 @@ impl Counts {
     {
         let mut at = self.at;
         let l = level as usize;
-        if 13 <= l {
+        if LEVELS <= l {
             return self;
         }
         let c = at[l];
@@ -60,7 +63,7 @@ impl Counts {
     {
         let mut at = self.at;
         let l = level as usize;
-        if 13 <= l {
+        if LEVELS <= l {
             return self;
         }
         let c = at[l];
@@ -79,7 +82,7 @@ impl Counts {
         let mut sum: u32 = 0;
         let mut size: u32 = 1;
         let mut level: usize = 0;
-        while level < 13 {
+        while level < LEVELS {
             sum += at[level] as u32 * size;
             size *= 2;
             level += 1;
@@ -93,16 +96,16 @@ impl Counts {
         ensures { λ r. ⌜ r ≡ rowsOf (self .at) ⌝ }
     {
         let at = self.at;
-        let mut start = [0u16; 13];
-        let mut run = [0u16; 13];
-        let mut lone = [NONE; 13];
+        let mut start = [0u16; LEVELS];
+        let mut run = [0u16; LEVELS];
+        let mut lone = [NONE; LEVELS];
         let mut s = Climb {
             before: 0,
             level: NONE,
             down: 0,
         };
         let mut l: usize = 0;
-        while l < 13 {
+        while l < LEVELS {
             let c = at[l];
             start[l] = s.before;
             run[l] = s.running(c);
@@ -255,12 +258,12 @@ impl Climb {
     }
 
     // Writes the lone block's place so far among the lone places.
-    fn mark_in(self, lone: &mut [u16; 13])
+    fn mark_in(self, lone: &mut [u16; LEVELS])
         requires { ⌜ (self .down ≤ 12) × (self .before * 2 ^ self .down < 2 ^ 16) × (length (now lone) ≡ 13) ⌝ }
         ensures { λ _. ⌜ now (lone .exit) ≡ mark (stateOf self) (now (lone .entry)) ⌝ }
     {
         let level = self.level as usize;
-        if 13 <= level {
+        if LEVELS <= level {
             return;
         }
         lone[level] = self.before * power(self.down);

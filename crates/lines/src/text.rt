@@ -10,10 +10,13 @@ ghost use Rattle.lines.specs.Line.{spaced, moveField};
 ghost use Rattle.lines.specs.Text.{Grown, Spells};
 use table::Move;
 
+// The most bytes of a text: the longest line has fewer.
+pub const LONGEST: usize = 128;
+
 // At most 128 bytes: the first `n` of the buffer. The others are 0.
 pub struct Text {
     pub n: usize,
-    pub bytes: [u8; 128],
+    pub bytes: [u8; LONGEST],
 }
 
 impl Text {
@@ -23,7 +26,7 @@ impl Text {
     {
         Text {
             n: 0,
-            bytes: [0u8; 128],
+            bytes: [0u8; LONGEST],
         }
     }
 

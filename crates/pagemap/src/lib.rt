@@ -11,10 +11,17 @@ ghost use Rattle.pagemap.specs.Draw.{drawing, drawn};
 ghost use Rattle.pagemap.specs.Count.{setBits, counted};
 ghost use Rattle.pagemap.specs.Flags.{flags, filled, rowFilled};
 use calls::request::reserve_refusal;
+use layout::LEVELS;
 use layout::Layout;
 use refusal::NOT_IN_ORDER;
 use refusal::TOO_SHORT;
 use survey::survey;
+use table::NODES;
+
+// The most pages that a reserve has, and the bytes of a map with a bit for each.
+const PAGES: usize = 4096;
+
+pub const MAP_BYTES: usize = 512;
 
 // What counting answers: 0 and the number of set bits, or 15 and 0.
 pub struct Counted {
@@ -30,12 +37,12 @@ pub fn draw(height: u16, table: &[u16], map: &mut [u8]) -> u16
     if number != 0 {
         return number;
     }
-    let mut owner = [0u16; 8192];
+    let mut owner = [0u16; NODES];
     let found = survey(height, table, &mut owner);
     if !found.in_order {
         return NOT_IN_ORDER;
     }
-    if map.len() < 512 {
+    if map.len() < MAP_BYTES {
         return TOO_SHORT;
     }
     let counts = found.counts;
@@ -47,10 +54,10 @@ pub fn draw(height: u16, table: &[u16], map: &mut [u8]) -> u16
 pub fn count(map: &[u8]) -> Counted
     ensures { λ r. ⌜ r ≡ counted (now (map .entry)) ⌝ }
 {
-    if 512 <= map.len() {
+    if MAP_BYTES <= map.len() {
         return Counted {
             answer: 0,
-            count: set_bits(&map[..512]),
+            count: set_bits(&map[..MAP_BYTES]),
         };
     }
     Counted {
@@ -83,16 +90,16 @@ fn write_map(layout: Layout, map: &mut [u8])
 }
 
 // A flag for each page: 1 where a block of the layout covers it.
-fn page_flags(layout: Layout) -> [u8; 4096]
+fn page_flags(layout: Layout) -> [u8; PAGES]
     ensures { λ r. ⌜ r ≡ flags 4096 (coveredb 12 (rowsHold layout)) ⌝ }
 {
     let starts = layout.start;
     let runs = layout.run;
     let lones = layout.lone;
-    let mut pages = [0u8; 4096];
+    let mut pages = [0u8; PAGES];
     let mut size: usize = 1;
     let mut level: usize = 0;
-    while level < 13 {
+    while level < LEVELS {
         fill_row(&mut pages, size, starts[level], runs[level], lones[level]);
         size *= 2;
         level += 1;
@@ -102,7 +109,7 @@ fn page_flags(layout: Layout) -> [u8; 4096]
 
 // Sets the flags of the pages of the `run` blocks from index `start` on and of the block at index `lone`, each of `size` pages. What lies past
 // the last page has no flag, and at any size that is where index 65,535 lies, which stands for no block.
-fn fill_row(pages: &mut [u8; 4096], size: usize, start: u16, run: u16, lone: u16)
+fn fill_row(pages: &mut [u8; PAGES], size: usize, start: u16, run: u16, lone: u16)
     requires { ⌜ (size ≤ 4096) × (length (now pages) ≡ 4096) ⌝ }
     ensures { λ r. ⌜ now (pages .exit) ≡ rowFilled size start run lone (now (pages .entry)) ⌝ }
 {
@@ -114,7 +121,7 @@ fn fill_row(pages: &mut [u8; 4096], size: usize, start: u16, run: u16, lone: u16
 }
 
 // Sets the flags of the pages from `from` to before `to`.
-fn fill(pages: &mut [u8; 4096], from: usize, to: usize)
+fn fill(pages: &mut [u8; PAGES], from: usize, to: usize)
     requires { ⌜ length (now pages) ≡ 4096 ⌝ }
     ensures { λ r. ⌜ now (pages .exit) ≡ filled from to (now (pages .entry)) ⌝ }
 {
@@ -130,23 +137,23 @@ fn fill(pages: &mut [u8; 4096], from: usize, to: usize)
 fn capped(page: usize) -> usize
     ensures { λ r. ⌜ r ≡ min page 4096 ⌝ }
 {
-    if page < 4096 { page } else { 4096 }
+    if page < PAGES { page } else { PAGES }
 }
 
 // Packs the flags into the first 512 bytes, eight to a byte.
-fn pack(pages: &[u8; 4096], map: &mut [u8])
+fn pack(pages: &[u8; PAGES], map: &mut [u8])
     requires { ⌜ (512 ≤ length (now map)) × ((p : ℕ) → getD (now pages) p 0 ≤ 1) ⌝ }
     ensures { λ r. ⌜ now (map .exit) ≡ bytesOf 512 (λ p. getD (now (pages .entry)) p 0) ++ drop 512 (now (map .entry)) ⌝ }
 {
     let mut j = 0;
-    while j < 512 {
+    while j < MAP_BYTES {
         map[j] = byte(pages, j);
         j += 1;
     }
 }
 
 // Byte j of the map: the flags of the pages 8j to 8j + 7, the first of which weighs 1.
-fn byte(pages: &[u8; 4096], j: usize) -> u8
+fn byte(pages: &[u8; PAGES], j: usize) -> u8
     requires { ⌜ (j < 512) × ((p : ℕ) → getD (now pages) p 0 ≤ 1) ⌝ }
     ensures { λ r. ⌜ r ≡ byteOf (λ p. getD (now (pages .entry)) p 0) j ⌝ }
 {

@@ -10,32 +10,38 @@ ghost use Rattle.reserve.specs.Door.{Decoded};
 use journal::put_word;
 use journal::word;
 use table::Move;
+use table::TENANTS;
 use table::plan::Plan;
+
+// The bytes of the image of a table, and of a move.
+const TABLE_BYTES: usize = 8192;
+
+pub const MOVE_BYTES: usize = 6;
 
 // Reads the table that an image stands for into the front of the array, and says how many entries it has: none if the image does not have 8,192
 // bytes.
-pub fn decode(image: &[u8], nodes: &mut [u16; 4096]) -> usize
+pub fn decode(image: &[u8], nodes: &mut [u16; TENANTS]) -> usize
     requires { ⌜ length (now nodes) ≡ 4096 ⌝ }
     ensures { λ r. ⌜ Decoded (now (image .entry)) (now (nodes .exit)) r ⌝ }
 {
-    if image.len() != 8192 {
+    if image.len() != TABLE_BYTES {
         return 0;
     }
     let mut i = 0;
-    while i < 4096 {
+    while i < TENANTS {
         nodes[i] = word(image[2 * i], image[2 * i + 1]);
         i += 1;
     }
-    4096
+    TENANTS
 }
 
 // Writes the image of a table.
-pub fn encode(nodes: &[u16; 4096], image: &mut [u8])
+pub fn encode(nodes: &[u16; TENANTS], image: &mut [u8])
     requires { ⌜ (length (now nodes) ≡ 4096) × (length (now image) ≡ 8192) ⌝ }
     ensures { λ _. ⌜ now (image .exit) ≡ imageOf (now (nodes .entry)) ⌝ }
 {
     let mut i = 0;
-    while i < 4096 {
+    while i < TENANTS {
         put_word(image, 2 * i, nodes[i]);
         i += 1;
     }
@@ -60,7 +66,7 @@ pub fn put_moves(plan: Plan, list: &mut [u8])
     let moves = plan.moves;
     let mut k = 0;
     while k < n {
-        put_move(list, 6 * k, moves[k]);
+        put_move(list, MOVE_BYTES * k, moves[k]);
         k += 1;
     }
 }

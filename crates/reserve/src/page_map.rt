@@ -5,6 +5,7 @@ ghost use Rattle.pagemap.specs.Count.{counted};
 ghost use Rattle.reserve.specs.Image.{tableOf};
 ghost use Rattle.reserve.specs.Door.{countOf};
 use crate::image::decode;
+use table::TENANTS;
 
 // What counting reports: 0 or 15, and the number of set bits.
 #[repr(C)]
@@ -18,7 +19,7 @@ pub struct Counted {
 pub extern "C" fn reserve_draw(height: u16, table: &[u8], map: &mut [u8]) -> u16
     ensures { λ r. ⌜ drawing r (now (map .exit)) ≡ drawn height (tableOf (now (table .entry))) (now (map .entry)) ⌝ }
 {
-    let mut nodes = [0u16; 4096];
+    let mut nodes = [0u16; TENANTS];
     let n = decode(table, &mut nodes);
     pagemap::draw(height, &nodes[..n], map)
 }

@@ -1,6 +1,8 @@
 // One look at a lent table: whether it is in order, how many blocks each level has, and who holds which node.
 use layout::Counts;
+use layout::LEVELS;
 use layout::NONE;
+use table::NODES;
 use table::passes::level_counts;
 use table::passes::owners;
 use table::passes::used;
@@ -22,7 +24,7 @@ pub struct Finding {
 
 // What the table shows. `owner`, which is lent as zeros, then has at each held node its tenant's number and one; where a node lies past the
 // tree, it is left as it was, and nothing is counted.
-pub fn survey(height: u16, table: &[u16], owner: &mut [u16; 8192]) -> Finding
+pub fn survey(height: u16, table: &[u16], owner: &mut [u16; NODES]) -> Finding
     requires { ⌜ (height ≤ 12) × (length (now table) ≡ 4096) × (now owner ≡ replicate 8192 0) ⌝ }
     ensures finding { λ r. ⌜ r ≡ findingOf height (now (table .entry)) ⌝ }
     ensures owners { λ _. ⌜ now (owner .exit) ≡ ownersFound height (now (table .entry)) ⌝ }
@@ -43,7 +45,7 @@ pub fn survey(height: u16, table: &[u16], owner: &mut [u16; 8192]) -> Finding
 }
 
 // Whether a table with no node past the tree is in order, from its owners by node and their number on each level.
-fn ordered(height: u16, table: &[u16], counts: Counts, owner: &[u16; 8192]) -> bool
+fn ordered(height: u16, table: &[u16], counts: Counts, owner: &[u16; NODES]) -> bool
     requires { ⌜ Gathered height (now table) (counts .at) (now owner) ⌝ }
     ensures { λ r. ⌜ r ≡ in-order? height (now (table .entry)) ⌝ }
 {
@@ -69,7 +71,7 @@ fn held(counts: Counts) -> usize
     let at = counts.at;
     let mut sum: usize = 0;
     let mut level: usize = 0;
-    while level < 13 {
+    while level < LEVELS {
         sum += at[level] as usize;
         level += 1;
     }
@@ -77,7 +79,7 @@ fn held(counts: Counts) -> usize
 }
 
 // Whether every node of the layout of the counts has an owner.
-fn settled(height: u16, counts: Counts, owner: &[u16; 8192]) -> bool
+fn settled(height: u16, counts: Counts, owner: &[u16; NODES]) -> bool
     requires { ⌜ (height ≤ 12) × (pages (counts .at) ≤ 2 ^ height) ⌝ }
     ensures { λ r. ⌜ r ≡ rowsOwned height (rowsOf (counts .at)) (now (owner .entry)) ⌝ }
 {

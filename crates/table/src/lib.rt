@@ -3,6 +3,9 @@
 pub mod passes;
 pub mod plan;
 
+// How many nodes a reserve of the greatest height has, and 0, which is none: the length of an array by node.
+pub const NODES: usize = 8192;
+
 // How many tenants there are, and so how many entries a table has.
 pub const TENANTS: usize = 4096;
 

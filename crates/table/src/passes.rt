@@ -7,6 +7,8 @@ ghost use lib.ListN.{length};
 ghost use Rattle.tree.specs.Held.{one-if};
 ghost use Rattle.table.specs.Table.{tally};
 ghost use Rattle.table.specs.Owners.{nodes-below, ownersFrom, storedIf, usedIn, levelCounts};
+use crate::NODES;
+use layout::LEVELS;
 
 // One for an entry that is 0.
 fn one_if_zero(entry: u16) -> u16
@@ -51,7 +53,7 @@ fn any_bits(part: &[u16]) -> u16
 }
 
 // Stores each tenant's number and one at its node, in the tenants' order.
-fn store(table: &[u16], owner: &mut [u16; 8192])
+fn store(table: &[u16], owner: &mut [u16; NODES])
     requires { ⌜ (length (now table) ≤ 4096) × (nodes-below 8192 (now table) ≡ true) ⌝ }
     ensures { λ _. ⌜ now (owner .exit) ≡ ownersFrom (now (owner .entry)) 0 (now (table .entry)) ⌝ }
 {
@@ -65,7 +67,7 @@ fn store(table: &[u16], owner: &mut [u16; 8192])
 
 // Whether no node lies past a tree of this height; if so, each node of the table has its owner stored, and else nothing is. That all nodes
 // are tested before the first is stored makes both passes faster.
-pub fn owners(height: u16, table: &[u16], owner: &mut [u16; 8192]) -> bool
+pub fn owners(height: u16, table: &[u16], owner: &mut [u16; NODES]) -> bool
     requires { ⌜ (length (now table) ≤ 4096) × (height ≤ 12) ⌝ }
     ensures below { λ r. ⌜ r ≡ nodes-below (2 ^ suc height) (now (table .entry)) ⌝ }
     ensures stored { λ _. ⌜ now (owner .exit) ≡ storedIf (nodes-below (2 ^ suc height) (now (table .entry))) (now (owner .entry)) (now (table .entry)) ⌝ }
@@ -79,12 +81,12 @@ pub fn owners(height: u16, table: &[u16], owner: &mut [u16; 8192]) -> bool
 }
 
 // How many nodes of each level have an owner; 0 above the height.
-pub fn level_counts(height: u16, owner: &[u16; 8192]) -> [u16; 13]
+pub fn level_counts(height: u16, owner: &[u16; NODES]) -> [u16; LEVELS]
     requires { ⌜ height ≤ 12 ⌝ }
     ensures { λ r. ⌜ r ≡ levelCounts height (now (owner .entry)) ⌝ }
 {
     let nodes = &owner[..];
-    let mut counts = [0u16; 13];
+    let mut counts = [0u16; LEVELS];
     // Level by level from the root down: the first node of a level is twice that of the level above.
     let mut level = (height as usize) + 1;
     let mut first = 1;

@@ -10,6 +10,7 @@ ghost use Rattle.table.specs.Plan.{rowHolds, sameRow, lastOf, onlyIn, be
 ghost use Rattle.table.specs.Plan.{moveOf, levelShifts, Shiftable, LevelShifted};
 ghost use Rattle.table.specs.Plan.{rowOf, indexOn, nodeOn, shiftsAt, Plannable, LevelPlanned, AllPlanned};
 use crate::Move;
+use crate::NODES;
 use layout::Layout;
 use layout::NONE;
 
@@ -126,7 +127,7 @@ impl Plan {
 }
 
 // The move of whoever is on the node `from`; `owners` has each node's tenant and one.
-fn move_from(owners: &[u16; 8192], from: u16, to: u16) -> Move
+fn move_from(owners: &[u16; NODES], from: u16, to: u16) -> Move
     requires { ⌜ (from < 8192) × (0 < getD (now owners) from 0) ⌝ }
     ensures { λ r. ⌜ r ≡ moveOf (now (owners .entry)) (record { from = from; to = to }) ⌝ }
 {
@@ -145,7 +146,7 @@ pub struct Shifted {
 
 // The plan with the moves from one row to another at its end: the blocks that are in `old` and not in `new` go, left to right, to the places that are in `new`
 // and not in `old`; spare is the first place left over. The level's first node is `base`, and `owners` has each node's tenant and one.
-fn shift_rows(plan: Plan, base: u16, old: Row, new: Row, owners: &[u16; 8192]) -> Shifted
+fn shift_rows(plan: Plan, base: u16, old: Row, new: Row, owners: &[u16; NODES]) -> Shifted
     requires rows { ⌜ Shiftable base old new (now owners) ⌝ }
     requires room { ⌜ (plan .n + length (levelShifts base old new) ≤ 4) × (plan ≡ planOf (movesIn plan)) ⌝ }
     ensures { λ r. ⌜ LevelShifted base old new (now (owners .entry)) plan r ⌝ }
@@ -162,7 +163,7 @@ fn shift_rows(plan: Plan, base: u16, old: Row, new: Row, owners: &[u16; 8192]) -
 }
 
 // The same as `shift_rows`, but a level that stays as it was, as most do, is not searched.
-pub fn shift_level(plan: Plan, base: u16, old: Row, new: Row, owners: &[u16; 8192]) -> Shifted
+pub fn shift_level(plan: Plan, base: u16, old: Row, new: Row, owners: &[u16; NODES]) -> Shifted
     requires rows { ⌜ Shiftable base old new (now owners) ⌝ }
     requires room { ⌜ (plan .n + length (levelShifts base old new) ≤ 4) × (plan ≡ planOf (movesIn plan)) ⌝ }
     ensures { λ r. ⌜ LevelShifted base old new (now (owners .entry)) plan r ⌝ }
@@ -230,7 +231,7 @@ fn plan_level(
     new: Layout,
     gone: u16,
     wanted: u16,
-    owners: &[u16; 8192],
+    owners: &[u16; NODES],
 ) -> Planned
     requires rows { ⌜ Plannable height old new gone (now owners) ⌝ }
     requires level { ⌜ level ≤ height ⌝ }
@@ -261,7 +262,7 @@ pub fn plan_moves(
     new: Layout,
     gone: u16,
     wanted: u16,
-    owners: &[u16; 8192],
+    owners: &[u16; NODES],
 ) -> Planned
     requires { ⌜ Plannable height old new gone (now owners) ⌝ }
     ensures { λ r. ⌜ AllPlanned height old new gone wanted (now (owners .entry)) r ⌝ }
