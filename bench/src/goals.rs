@@ -37,7 +37,7 @@ impl Goal {
 pub fn of_times(rows: &[Row], figures: &[Figures]) -> Vec<Goal> {
     let ratios = |who: usize| {
         let places = rows.iter().zip(figures);
-        places.map(move |(row, figures)| (row, figures.ratios[who].middle))
+        places.map(move |(row, figures)| (row, figures.ratio(who)))
     };
     let named = |(row, ratio): (&Row, f64)| (ratio, row.name());
     let full = |(row, _): &(&Row, f64)| changes_full(row);
@@ -136,6 +136,7 @@ pub fn of_row<'a>(counts: &'a [Count], place: usize, who: &'a str) -> impl Itera
 pub struct Longest {
     pub answered: usize,
     pub refused: usize,
+    /// Whole, as it is printed.
     pub median: f64,
     pub longest: f64,
     pub place: String,
@@ -164,7 +165,7 @@ impl Longest {
         Longest {
             answered: answered.clone().count(),
             refused: refused.count(),
-            median: median(answered.map(|count| count.instructions as f64)),
+            median: median(answered.map(|count| count.instructions as f64)).round(),
             longest: longest.instructions as f64,
             place,
         }

@@ -1,7 +1,7 @@
 //! The benchmark's parts, which `bench/run` puts together:
 //!
 //! - `bench check` compares the planners on everything that is timed or counted, and on random calls;
-//! - `bench time ROUNDS NAME` times them and prints a line for each row of a round, with this program's name;
+//! - `bench time ROUNDS NAME` times them and prints a line for each input of a round, with this program's name;
 //! - `bench calls` makes the calls that callgrind counts and prints a line about each;
 //! - `bench goals DIR` judges the goals that instructions decide, from DIR/calls.txt and DIR/callgrind.out;
 //! - `bench report DIR` writes DIR/table.md and DIR/bench.svg, from these two and DIR/times.txt, DIR/stack.txt and
@@ -105,6 +105,7 @@ fn report(dir: &Path) -> Result<bool> {
     let times = fs::read_to_string(dir.join("times.txt"))?;
     let figures = timing::read(&times, rows.len() + plotted.len())?;
     let (of_rows, of_plot) = figures.split_at(rows.len());
+    let inputs: usize = rows.iter().chain(&plotted).map(|row| row.inputs.len()).sum();
     let stack = fs::read_to_string(dir.join("stack.txt"))?;
     let mut goals = goals::of_times(&rows, of_rows);
     goals.append(&mut goals::of_counts(&rows, &counts));
@@ -112,7 +113,7 @@ fn report(dir: &Path) -> Result<bool> {
     let mut text = String::new();
     let findings = Findings {
         machine: &fs::read_to_string(dir.join("machine.txt"))?,
-        rounds: times.lines().count() / figures.len(),
+        rounds: times.lines().count() / inputs,
         rows: &rows,
         figures: of_rows,
         counts: &counts,

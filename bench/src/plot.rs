@@ -181,7 +181,7 @@ impl Panel {
         let text: Vec<String> = points
             .map(|(row, figures)| {
                 let tenants: f64 = row.outcome.parse().expect("a number of tenants");
-                format!("{:.1},{:.1}", self.x(tenants), self.y(figures.times[curve.who].middle))
+                format!("{:.1},{:.1}", self.x(tenants), self.y(figures.times[curve.who]))
             })
             .collect();
         let Curve { color, dashes, .. } = curve;

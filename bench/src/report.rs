@@ -5,8 +5,8 @@ use std::fmt::{self, Write};
 use crate::counts::Count;
 use crate::goals::{of_row, pass_of, stack_uses, Goal, Longest};
 use crate::rows::{Row, HEIGHTS, SEED};
-use crate::stats::{median, Spread};
-use crate::timing::{Figures, LIBRARY, PASS, SAME, SECOND};
+use crate::stats::median;
+use crate::timing::{Figures, LIBRARY, PASS, SAME, SECOND, WHOLE_FROM};
 
 /// Everything that a run has found out.
 pub struct Findings<'a> {
@@ -61,11 +61,11 @@ fn goals(out: &mut String, goals: &[Goal]) -> fmt::Result {
 fn rows(out: &mut String, height: u16, findings: &Findings) -> fmt::Result {
     let pages = thousands(f64::from(1 << height));
     writeln!(out, "\n### Height {height}, {pages} pages\n")?;
-    writeln!(
-        out,
-        "{} rounds, seed {SEED}; in brackets the first and the third quartile.\n",
-        findings.rounds
-    )?;
+    let pass = pass_of(findings.counts);
+    let rounds = findings.rounds;
+    let brackets = "the first and the third quartile of the ratios within single rounds";
+    writeln!(out, "{rounds} rounds, seed {SEED}. In brackets: {brackets}.")?;
+    writeln!(out, "The pass takes {} instructions.\n", thousands(pass))?;
     let times = "Library, ns | Rust, ns | Second, ns | Pass, ns";
     let ratios = "Library ÷ Rust | ÷ second | ÷ pass";
     let counts = "Library, instructions | Rust | Library ÷ Rust | ÷ pass";
@@ -73,28 +73,42 @@ fn rows(out: &mut String, height: u16, findings: &Findings) -> fmt::Result {
     writeln!(out, "|---|---|---|{}", "---:|".repeat(11))?;
     let lines = findings.rows.iter().zip(findings.figures).enumerate();
     for (place, (row, figures)) in lines.filter(|(_, (row, _))| row.height == height) {
-        let time = |who: usize| thousands(figures.times[who].middle);
-        let ratio = |who: usize| spread(&figures.ratios[who]);
-        let [library, same] = ["library", "same"].map(|who| median(of_row(findings.counts, place, who)));
-        let cells = [
-            row.call.to_string(),
-            row.reserve.to_string(),
-            row.outcome.clone(),
-            time(LIBRARY),
-            time(SAME),
-            time(SECOND),
-            time(PASS),
-            ratio(SAME),
-            ratio(SECOND),
-            ratio(PASS),
+        let (call, reserve, outcome) = (row.call, row.reserve, &row.outcome);
+        let times = time_cells(figures).join(" | ");
+        // Rounded as they are printed, so that the ratios are their quotients.
+        let [library, same] = ["library", "same"].map(|who| median(of_row(findings.counts, place, who)).round());
+        let counts = [
             thousands(library),
             thousands(same),
             number(library / same),
-            number(library / pass_of(findings.counts)),
+            number(library / pass),
         ];
-        writeln!(out, "| {} |", cells.join(" | "))?;
+        let counts = counts.join(" | ");
+        writeln!(out, "| {call} | {reserve} | {outcome} | {times} | {counts} |")?;
     }
     Ok(())
+}
+
+/// The times of a row, and the ratios of the library's to the others'.
+fn time_cells(figures: &Figures) -> [String; 7] {
+    let time = |who: usize| match figures.times[who] {
+        time if time < WHOLE_FROM => format!("{time:.1}"),
+        time => thousands(time),
+    };
+    let ratio = |who: usize| {
+        let quartiles = figures.quartiles[who];
+        let [ratio, first, third] = [figures.ratio(who), quartiles.first, quartiles.third].map(number);
+        format!("{ratio} ({first}–{third})")
+    };
+    [
+        time(LIBRARY),
+        time(SAME),
+        time(SECOND),
+        time(PASS),
+        ratio(SAME),
+        ratio(SECOND),
+        ratio(PASS),
+    ]
 }
 
 fn longest(out: &mut String, findings: &Findings) -> fmt::Result {
@@ -131,12 +145,6 @@ fn stack(out: &mut String, lines: &str) -> fmt::Result {
     Ok(())
 }
 
-/// A ratio with its quartiles.
-fn spread(ratio: &Spread) -> String {
-    let [low, middle, high] = [ratio.low, ratio.middle, ratio.high].map(number);
-    format!("{middle} ({low}–{high})")
-}
-
 /// A number with as many as three decimals; whole from 1,000 on.
 fn exact(value: f64) -> String {
     if value >= 1000.0 {
@@ -168,4 +176,45 @@ fn thousands(value: f64) -> String {
         text.push(digit);
     }
     text
+}
+
+#[cfg(test)]
+mod tests {
+    use oracle::random::Random;
+
+    use super::{number, time_cells};
+    use crate::timing::{self, CONTESTANTS};
+
+    const ROWS: usize = 1000;
+    const ROUNDS: usize = 5;
+
+    /// Lines about rows with one input each, of times from some nanoseconds to a millisecond.
+    fn drawn_lines() -> String {
+        let mut random = Random::new(1);
+        let mut lines = String::new();
+        for row in 0..ROWS {
+            let sizes: [u32; CONTESTANTS] = std::array::from_fn(|_| random.pick(&[90, 999, 1100, 20_000, 1_000_000]));
+            for _ in 0..ROUNDS {
+                let times = sizes.map(|size| (f64::from(size) + f64::from(random.below(size)) / 32.0).to_string());
+                lines += &format!("a {row} 0 {}\n", times.join(" "));
+            }
+        }
+        lines
+    }
+
+    /// What a reader takes a printed number for.
+    fn read(cell: &str) -> f64 {
+        cell.replace(',', "").parse().expect("a number")
+    }
+
+    #[test]
+    fn ratios_are_the_quotients_of_the_printed_times() {
+        for figures in timing::read(&drawn_lines(), ROWS).expect("all rows") {
+            let [library, same, second, pass, ratios @ ..] = time_cells(&figures);
+            for (other, ratio) in [same, second, pass].into_iter().zip(ratios) {
+                let (ratio, _) = ratio.split_once(" (").expect("quartiles in brackets");
+                assert_eq!(ratio, number(read(&library) / read(&other)), "{library} ÷ {other}");
+            }
+        }
+    }
 }

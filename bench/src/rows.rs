@@ -14,7 +14,7 @@ pub const HEIGHTS: [u16; 2] = [6, 12];
 /// Everything that is drawn for the table follows from this number.
 pub const SEED: u64 = 1;
 
-/// The most inputs of a row; a row's figure is the median over them.
+/// The most inputs of a row; its times are means over them, and its instructions medians.
 const INPUTS: usize = 8;
 
 /// How many times the holders of a reserve are drawn for a row.

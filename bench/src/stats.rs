@@ -1,26 +1,34 @@
-//! Medians, quartiles and means.
+//! Means, medians and quartiles.
 
-/// A middle value, and the first and the third quartile.
+/// The first and the third quartile.
 #[derive(Clone, Copy, Debug)]
-pub struct Spread {
-    pub low: f64,
-    pub middle: f64,
-    pub high: f64,
+pub struct Quartiles {
+    pub first: f64,
+    pub third: f64,
 }
 
-impl Spread {
-    /// The spread of some groups of numbers, of which none is empty. The quartiles are over all numbers; the middle
-    /// is the geometric mean of the groups' medians, because the median of groups that lie apart would be that of any
-    /// one of them.
-    pub fn over(groups: &[Vec<f64>]) -> Spread {
-        let all = sorted(groups.iter().flatten().copied());
-        let logarithms = groups.iter().map(|group| median(group.iter().copied()).ln());
-        Spread {
-            low: part(&all, 0.25),
-            middle: (logarithms.sum::<f64>() / groups.len() as f64).exp(),
-            high: part(&all, 0.75),
+impl Quartiles {
+    /// The quartiles of numbers, of which there is at least one.
+    pub fn of(numbers: impl IntoIterator<Item = f64>) -> Quartiles {
+        let sorted = sorted(numbers);
+        Quartiles {
+            first: part(&sorted, 0.25),
+            third: part(&sorted, 0.75),
         }
     }
+}
+
+/// The mean of numbers, of which there is at least one.
+pub fn mean(numbers: impl ExactSizeIterator<Item = f64>) -> f64 {
+    let count = numbers.len() as f64;
+    numbers.sum::<f64>() / count
+}
+
+/// The mean of the smaller half of numbers, of which there is at least one; an odd number of them has its middle one in
+/// that half.
+pub fn mean_of_smaller_half(numbers: impl IntoIterator<Item = f64>) -> f64 {
+    let sorted = sorted(numbers);
+    mean(sorted[..sorted.len().div_ceil(2)].iter().copied())
 }
 
 /// The median of numbers, of which there is at least one; of an even number of them, the mean of the two in the
