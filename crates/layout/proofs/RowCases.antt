@@ -48,7 +48,8 @@ held-by-row L h n d w long q p is-depth is-first inside =
 
 -- Which node is the k-th?
 
-pub index-at : (L : Layout) (l k : ℕ) → l < length (L .lone) → kthIndex (getD (L .start) l 0) (getD (L .run) l 0) (getD (L .lone) l 0) k ≡ indexAt L l k
+pub index-at : (L : Layout) (l k : ℕ) → l < length (L .lone)
+    → kthIndex (getD (L .start) l 0) (getD (L .run) l 0) (getD (L .lone) l 0) k ≡ indexAt L l k
 index-at L l k h = rw (getD-inside (L .lone) l 0 no-index h)
 
 pub no-node-too-high : (h l i : ℕ) → 12 < h → nodeOrZero h l i ≡ 0
