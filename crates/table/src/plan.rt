@@ -143,8 +143,9 @@ pub struct Shifted {
     pub spare: u16,
 }
 
-// The plan with the moves from one row to another at its end: the blocks that are in `old` and not in `new` go, left to right, to the places that are in `new`
-// and not in `old`; spare is the first place left over. The level's first node is `base`, and `owners` has each node's tenant and one.
+// The plan with the moves from one row to another at its end: the blocks that are in `old` and not in `new` go, left to right, to the places
+// that are in `new` and not in `old`; spare is the first place left over. The level's first node is `base`, and `owners` has each node's tenant
+// and one.
 fn shift_rows(plan: Plan, base: u16, old: Row, new: Row, owners: &[u16; 8192]) -> Shifted
     requires rows { ⌜ Shiftable base old new (now owners) ⌝ }
     requires room { ⌜ (plan .n + length (levelShifts base old new) ≤ 4) × (plan ≡ planOf (movesIn plan)) ⌝ }
