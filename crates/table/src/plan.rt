@@ -23,7 +23,7 @@ pub struct Row {
 
 impl Row {
     // Whether the block with this index is in the row.
-    pub fn holds(self, index: u16) -> bool
+    fn holds(self, index: u16) -> bool
         ensures { λ r. ⌜ r ≡ rowHolds self index ⌝ }
     {
         if index == self.hole {
@@ -80,7 +80,7 @@ fn better(old: Row, new: Row, from: u16, candidate: u16, best: u16) -> u16
 }
 
 // The least index from `from` on that is in `old` and not in `new`; NONE if there is none.
-pub fn least(old: Row, new: Row, from: u16) -> u16
+fn least(old: Row, new: Row, from: u16) -> u16
     requires near { ⌜ Near (old .start) (old .run) (new .start) (new .run) ⌝ }
     requires fits { ⌜ old .start + old .run ≤ 2 ^ 16 ⌝ }
     ensures { λ r. ⌜ r ≡ leastOnly old new from ⌝ }
@@ -114,7 +114,7 @@ impl Plan {
     }
 
     // The plan with one move more, at the end.
-    pub fn push(self, m: Move) -> Plan
+    fn push(self, m: Move) -> Plan
         requires { ⌜ (self .n < 4) × (self ≡ planOf (movesIn self)) ⌝ }
         ensures { λ r. ⌜ r ≡ planOf (movesIn self ++ (m ∷ [])) ⌝ }
     {
@@ -163,7 +163,7 @@ fn shift_rows(plan: Plan, base: u16, old: Row, new: Row, owners: &[u16; 8192]) -
 }
 
 // The same as `shift_rows`, but a level that stays as it was, as most do, is not searched.
-pub fn shift_level(plan: Plan, base: u16, old: Row, new: Row, owners: &[u16; 8192]) -> Shifted
+fn shift_level(plan: Plan, base: u16, old: Row, new: Row, owners: &[u16; 8192]) -> Shifted
     requires rows { ⌜ Shiftable base old new (now owners) ⌝ }
     requires room { ⌜ (plan .n + length (levelShifts base old new) ≤ 4) × (plan ≡ planOf (movesIn plan)) ⌝ }
     ensures { λ r. ⌜ LevelShifted base old new (now (owners .entry)) plan r ⌝ }
