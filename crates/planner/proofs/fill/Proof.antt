@@ -24,8 +24,11 @@ use prog.Wp.{Heap, Out, Env, afterSeq, afterBlock, afterTurn, Wp, atReturn, WpFn
 use ghost.Atoms.{Atoms, sem}
 use contract.Monad.{Fun}
 use contract.Running.{givenOf, tables, tablesOf}
-use types.Kit.{Given, Item, ‵, raw, _⊛_, runs, anyQ, atRet, Sq, _$_, _∵_, !, qed, by, move, keep, use0, use1, drop, split, join, rewrite, fsplit, fjoin, feqI, suffices, frame, done}
-use types.Run.{look, store, store-raw, init, forget, stop, hop, fld, from, load, lit, unit-lit, of-opd, bin, and-then, no-more, assigns, assigns-last, land, first, blocks, stays, leaves-loop, returns, enter, alloc1, alloc0, params1, pass1, pass0, free1, free0, exec, Below, again, loops}
+use types.Kit.{Given, Item, ‵, raw, _⊛_, runs, anyQ, atRet, Sq, _$_, _∵_, !, qed, by, move, keep}
+use types.Kit.{use0, use1, drop, split, join, rewrite, fsplit, fjoin, feqI, suffices, frame, done}
+use types.Run.{look, store, store-raw, init, forget, stop, hop, fld, from, load, lit, unit-lit, of-opd, bin}
+use types.Run.{and-then, no-more, assigns, assigns-last, land, first, blocks, stays, leaves-loop, returns}
+use types.Run.{enter, alloc1, alloc0, params1, pass1, pass0, free1, free0, exec, Below, again, loops}
 use types.Part.{whole, sub, look-in}
 use sound.WpLaws.{fmOf, WpFn-mono}
 use denote.RattleType.{owns}
@@ -109,7 +112,8 @@ module _ {M : Type 1} (𝓤 : URA M) (H : Heap 𝓤) (A : Atoms 𝓤) (W : Given
   exits : ent 𝓤 (sep 𝓤 (A .lft κ q) (sem 𝓤 H A (finally Mv.the-row γ (listed n)))) (Post vunit)
   exits =
       qed W (‵ (flft κ q) ∷ ‵ (finally Mv.the-row γ (listed n)) ∷ []) ∵
-      suffices ! _ (ends-at 𝓤 H A fill.ended stayed (fill.clauses 𝓤 H A at-mem run) W (((κ, tt), (q, tt), tt, a, vals), tt) vunit tt (tt, (listed n, tt)) (tt, (length-listed n (omega arith), tt))) $ says ! refl $
+      suffices ! _ (ends-at 𝓤 H A fill.ended stayed (fill.clauses 𝓤 H A at-mem run) W (((κ, tt), (q, tt), tt, a, vals), tt) vunit tt (tt, (listed n, tt)) (tt, (length-listed n (omega arith), tt))) $
+      says ! refl $
       nothing ! $ move ! (1 ∷ 0 ∷ []) $ join ! $ frame ! $ nothing ! $ move ! (1 ∷ 0 ∷ []) $ fjoin ! $ nothing ! $ fjoin ! $
       feqI ! (List Val) (vunit ∷ []) (vunit ∷ []) refl $ move ! (1 ∷ 0 ∷ []) $ done !
 
@@ -120,7 +124,9 @@ module _ {M : Type 1} (𝓤 : URA M) (H : Heap 𝓤) (A : Atoms 𝓤) (W : Given
   goes : (i : ℕ) → i < n → ent 𝓤 (emp 𝓤) (MoveAt 𝓤 H A at-mem run .pre (to-move-at i))
   goes i less =
       let fits : i < 2 ^ 64 = omega arith in
-      qed W [] ∵ says ! (omega arith) $ nothing ! $ frame ! $ nothing ! $ owned ! usize (Is usize) (uint-makes 𝓤 H A W w64) i _ (refl, fits) $ fjoin ! $
+      qed W [] ∵
+      says ! (omega arith) $ nothing ! $ frame ! $ nothing ! $ owned ! usize (Is usize) (uint-makes 𝓤 H A W w64) i _ (refl, fits) $
+      fjoin ! $
       owned ! P.the-row (Is P.the-row) (LL.makes P.the-type P′.the-plain 𝓤 H A) p _ is $ fjoin ! $ done !
 
   -- how many moves stand in the list, and that a turn leaves fewer to come
@@ -162,14 +168,16 @@ module _ {M : Type 1} (𝓤 : URA M) (H : Heap 𝓤) (A : Atoms 𝓤) (W : Given
         -- the move, by value
         use0 W (raw (MoveAt 𝓤 H A at-mem run .pre (to-move-at (i .0)))) (goes (i .0) less) $
         calls-at ! (fmOf 𝓤 H (W .laws) 𝓣) (MoveAt 𝓤 H A at-mem run) known (to-move-at (i .0)) (and-then ! (val ! 19 refl) (and-then ! (val ! 13 refl) (no-more !))) (λ v.
-        answers ! tt move-at.ended (move-at.clauses 𝓤 H A at-mem run) (to-move-at (i .0)) v (λ r ws. r ≡ getD (p .moves) (i .0) no-move) (λ r ws. id⊢ 𝓤 _) (λ r ws e is-move. move ! (1 ∷ 2 ∷ []) $ drop ! $ drop ! $
+        answers 𝓤 H A move-at.ended (move-at.clauses 𝓤 H A at-mem run) (to-move-at (i .0)) ! tt v (λ r ws. r ≡ getD (p .moves) (i .0) no-move) (λ r ws. id⊢ 𝓤 _) (λ r ws e is-move. move ! (1 ∷ 2 ∷ []) $
+        drop ! $ drop ! $
         let typed = LL.lawful Mv.the-type Mv′.the-laws 𝓤 H A W .typed r _ is-move .0 in
         land ! (from ! (stop !)) (init ! 9 refl typed) $
         -- [what the move owns; the row; …]: its place
         assigns ! (bin ! (val ! 13 refl) (lit ! tt) (record { fits = bytes-fit })) (from ! (stop !)) (init ! 7 refl (tt, record { fits = bytes-fit })) $
         assigns ! (bin ! (load ! (from ! (fld ! refl (stop !))) (look-in ! 17 (sub ! 0 refl (whole !)))) (val ! 7 refl) tt) (from ! (stop !)) (init ! 5 refl (tt, tt)) $
         rewrite ! 5 (λ (k : ℕ). ‵ (fat fullShare tyPtr l₈ 0 (vptr b k))) (sym (place-is 6 o (i .0))) refl $
-        move ! (1 ∷ []) $ elem-out ! Mv.the-row (Is Mv.the-row) (shows 𝓤 H A Mv.the-row) (LL.vals Mv.the-type Mv′.the-laws) (LL.tells Mv.the-type Mv′.the-laws) fullShare (listed (i .0)) (i .0) no-move b o within-list (λ _.
+        move ! (1 ∷ []) $
+        elem-out ! Mv.the-row (Is Mv.the-row) (shows 𝓤 H A Mv.the-row) (LL.vals Mv.the-type Mv′.the-laws) (LL.tells Mv.the-type Mv′.the-laws) fullShare (listed (i .0)) (i .0) no-move b o within-list (λ _.
         -- [the entry; what it owns; the others; what the move owns; the open borrow; obs; auth; _8; …; _7; …; _6; …]
         assigns ! (of-opd ! (val ! 11 refl)) (from ! (hop ! (look ! 7 refl) (stop !))) (store-raw ! 0 refl typed) $
         move ! (0 ∷ 3 ∷ 2 ∷ []) $ elem-put ! Mv.the-row fullShare (listed (i .0)) (i .0) r (v ∷ []) b o within-list $ move ! (1 ∷ []) $ drop ! $
@@ -183,7 +191,8 @@ module _ {M : Type 1} (𝓤 : URA M) (H : Heap 𝓤) (A : Atoms 𝓤) (W : Given
         assigns ! (bin ! (val ! 12 refl) (val ! 14 refl) tt) (from ! (stop !)) (init ! 10 refl (tt, tt)) $
         rewrite ! 10 (λ (t : Bool). ‵ (fat fullShare tyBool l₅ 0 (vbool t))) (le-ltb (i .0) n (omega arith)) refl $ leaves-loop ! (val ! 10 refl) $
         exec ! (𝓣 .C) (𝓣 .Λ) En body.t-4 (atRet En Post) $ assigns ! (of-opd ! (unit-lit !)) (from ! (stop !)) (init ! 20 refl (tt, tt)) $
-        rewrite ! 0 (λ (k : ℕ). ‵ (row Mv.the-row fullShare (listed k) b o)) all refl $ closes-slice ! tt Mv.the-row ys (listed n) (length-listed n (omega arith)) b o $
+        rewrite ! 0 (λ (k : ℕ). ‵ (row Mv.the-row fullShare (listed k) b o)) all refl $
+        closes-slice ! tt Mv.the-row ys (listed n) (length-listed n (omega arith)) b o $
         use1 W (‵ (fres γ (codedHoleys Mv.the-row .code (heres Mv.the-row (listed n))))) (W .names .obs-res γ (codedHoleys Mv.the-row .code (heres Mv.the-row (listed n)))) $
         use1 W (‵ (finally Mv.the-row γ (listed n))) (res-finally 𝓤 H A W (named 0) κ Mv.the-row γ (listed n)) $
         -- [the last list; the borrow; the token; _8; …; _7; …; _6; …; _5; …; _4; …; _3; …; _2; …; _1; …; _0; …]
@@ -204,16 +213,20 @@ module _ {M : Type 1} (𝓤 : URA M) (H : Heap 𝓤) (A : Atoms 𝓤) (W : Given
     starts =
         assigns ! (of-opd ! (load ! (from ! (fld ! refl (stop !))) (look-in ! 14 (sub ! 0 refl (whole !))))) (from ! (stop !)) (init ! 10 refl (tt, record { fits = omega arith })) $
         assigns ! (of-opd ! (lit ! tt)) (from ! (stop !)) (init ! 8 refl (tt, record { fits = lit< tt })) $
-        move ! (19 ∷ []) $ fsplit ! $ drop ! $ fsplit ! $ fsplit ! $ drop ! $ fsplit ! $ move ! (21 ∷ []) $ split ! $ move ! (2 ∷ 3 ∷ 0 ∷ []) $ opens-slice ! tt Mv.the-row ys b o $
+        move ! (19 ∷ []) $ fsplit ! $ drop ! $ fsplit ! $ fsplit ! $ drop ! $ fsplit ! $ move ! (21 ∷ []) $ split ! $
+        move ! (2 ∷ 3 ∷ 0 ∷ []) $ opens-slice ! tt Mv.the-row ys b o $
         keep ! (0 ∷ 1 ∷ 2 ∷ 3 ∷ 6 ∷ 7 ∷ 8 ∷ 9 ∷ 10 ∷ 11 ∷ 12 ∷ 13 ∷ 14 ∷ 15 ∷ 16 ∷ 17 ∷ 18 ∷ 19 ∷ 20 ∷ 21 ∷ 22 ∷ 23 ∷ []) $
         first ! $ blocks ! $ loops ! 𝓣 Nearer nearer-wf At turns (0, zero-le)
 
   walk : (𝓣 : Tables 𝓤 H) → Triple 𝓤 (𝓣 .C #planner·move-at) (MoveAt 𝓤 H A at-mem run)
       → ent 𝓤 (onEntry 𝓤 H A fill.signature (κ, tt) (q, tt) a vals) (WpFn 𝓤 H (𝓣 .C) (𝓣 .Λ) code.function (vp ∷ vs ∷ []) Post)
   walk 𝓣 known =
-      qed W ((‵ (flft κ q) ⊛ ‵ ftrue) ∷ ‵ (owns (P.the-row ∷ MutSlice (named 0) κ Mv.the-row ∷ []) a vals) ∷ []) ∵ enter ! (𝓣 .C) (𝓣 .Λ) code.function (vp ∷ vs ∷ []) _ $
-      alloc1 ! (λ l₀. alloc1 ! (λ l₁. alloc1 ! (λ l₂. alloc1 ! (λ l₃. alloc1 ! (λ l₄. alloc1 ! (λ l₅. alloc1 ! (λ l₆. alloc1 ! (λ l₇. alloc1 ! (λ l₈. alloc0 ! $ params1 ! $
-      pass1 ! (init ! 14 refl (LL.lawful P.the-type P′.the-laws 𝓤 H A W .typed p _ is .0)) $ pass1 ! (init ! 12 refl (tt, (tt, (record { fits = room .0 }, tt)))) $ pass0 ! $
+      qed W ((‵ (flft κ q) ⊛ ‵ ftrue) ∷ ‵ (owns (P.the-row ∷ MutSlice (named 0) κ Mv.the-row ∷ []) a vals) ∷ []) ∵
+      enter ! (𝓣 .C) (𝓣 .Λ) code.function (vp ∷ vs ∷ []) _ $
+      alloc1 ! (λ l₀. alloc1 ! (λ l₁. alloc1 ! (λ l₂. alloc1 ! (λ l₃. alloc1 ! (λ l₄. alloc1 ! (λ l₅. alloc1 ! (λ l₆. alloc1 ! (λ l₇. alloc1 ! (λ l₈. alloc0 ! $
+      params1 ! $
+      pass1 ! (init ! 14 refl (LL.lawful P.the-type P′.the-laws 𝓤 H A W .typed p _ is .0)) $
+      pass1 ! (init ! 12 refl (tt, (tt, (record { fits = room .0 }, tt)))) $ pass0 ! $
       starts 𝓣 known l₀ l₁ l₂ l₃ l₄ l₅ l₆ l₇ l₈)))))))))
 
 module _ {M : Type 1} (𝓤 : URA M) (H : Heap 𝓤) (A : Atoms 𝓤) (W : Given 𝓤 H A) (mem : Memory → SProp 𝓤) (run : Routine → Fun 𝓤) (𝓣 : Tables 𝓤 H) (known : Triple 𝓤 (𝓣 .C #planner·move-at) (MoveAt 𝓤 H A mem run)) where

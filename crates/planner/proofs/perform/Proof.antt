@@ -16,8 +16,10 @@ use prog.Wp.{Heap, Env, WpFn, Tables}
 use ghost.Atoms.{Atoms, sem}
 use contract.Monad.{Fun}
 use contract.Running.{givenOf, tables, tablesOf}
-use types.Kit.{Given, ‵, raw, _⊛_, runs, atRet, Sq, _$_, _∵_, !, qed, by, move, keep, use2, drop, split, join, rewrite, fsplit, fjoin, suffices, frame, done}
-use types.Run.{look, init, stop, hop, fld, from, load, addr, of-opd, and-then, no-more, assigns, land, returns, enter, alloc1, alloc0, params1, pass1, pass0, free0}
+use types.Kit.{Given, ‵, raw, _⊛_, runs, atRet, Sq, _$_, _∵_, !, qed, by, move, keep}
+use types.Kit.{use2, drop, split, join, rewrite, fsplit, fjoin, suffices, frame, done}
+use types.Run.{look, init, stop, hop, fld, from, load, addr, of-opd, and-then, no-more}
+use types.Run.{assigns, land, returns, enter, alloc1, alloc0, params1, pass1, pass0, free0}
 use types.Part.{agg, whole, sub, look-in}
 use sound.WpLaws.{fmOf, WpFn-mono}
 use denote.RattleType.{owns}
@@ -108,8 +110,10 @@ module _ {M : Type 1} (𝓤 : URA M) (H : Heap 𝓤) (A : Atoms 𝓤) (W : Given
   goes-run : ent 𝓤 (sep 𝓤 (A .lft κ q) (sem 𝓤 H A (MutSlice (named 0) κ u16 .own x (vx ∷ [])))) (Run 𝓤 H A mem run .pre to-run)
   goes-run =
       qed W (‵ (flft κ q) ∷ ‵ (MutSlice (named 0) κ u16 .own x (vx ∷ [])) ∷ []) ∵ nothing ! $ move ! (1 ∷ 0 ∷ []) $ join ! $ move ! (1 ∷ []) $
-      nothing ! $ owned ! Cl.the-row (Is Cl.the-row) (EL.makes Cl.the-type Cl′.the-plain 𝓤 H A) c _ is-call $ fjoin ! $ owned ! usize (Is usize) (uint-makes 𝓤 H A W w64) (length (y .now)) _ (refl, room′ .0) $ fjoin ! $
-      move ! (1 ∷ 0 ∷ []) $ fjoin ! $ owned ! u16 (Is u16) (uint-makes 𝓤 H A W w16) h _ (refl, h-fits) $ fjoin ! $ move ! (1 ∷ 0 ∷ []) $ join ! $ frame ! $ done !
+      nothing ! $ owned ! Cl.the-row (Is Cl.the-row) (EL.makes Cl.the-type Cl′.the-plain 𝓤 H A) c _ is-call $ fjoin ! $
+      owned ! usize (Is usize) (uint-makes 𝓤 H A W w64) (length (y .now)) _ (refl, room′ .0) $ fjoin ! $
+      move ! (1 ∷ 0 ∷ []) $ fjoin ! $ owned ! u16 (Is u16) (uint-makes 𝓤 H A W w16) h _ (refl, h-fits) $ fjoin ! $ move ! (1 ∷ 0 ∷ []) $
+      join ! $ frame ! $ done !
 
   -- `run` has handed back r, at the table T′
   module _ (r : Called) (T′ : List ℕ) (is : Is Cd.the-row r (LL.vals Cd.the-type Cd′.the-laws r))
@@ -125,8 +129,10 @@ module _ {M : Type 1} (𝓤 : URA M) (H : Heap 𝓤) (A : Atoms 𝓤) (W : Given
 
     goes-fill : ent 𝓤 (sep 𝓤 (A .lft κ′ q′) (sem 𝓤 H A (MutSlice (named 1) κ′ Mv.the-row .own y (vy ∷ [])))) (Fill 𝓤 H A mem run .pre to-fill)
     goes-fill =
-        qed W (‵ (flft κ′ q′) ∷ ‵ (MutSlice (named 1) κ′ Mv.the-row .own y (vy ∷ [])) ∷ []) ∵ says ! (moves-few h c (x .now) (length (y .now)) r T′ met, moves-fit h c (x .now) (length (y .now)) r T′ met) $
-        nothing ! $ move ! (1 ∷ 0 ∷ []) $ join ! $ frame ! $ nothing ! $ move ! (1 ∷ 0 ∷ []) $ fjoin ! $ owned ! P.the-row (Is P.the-row) (LL.makes P.the-type P′.the-plain 𝓤 H A) (r .plan) _ is-plan $ fjoin ! $ done !
+        qed W (‵ (flft κ′ q′) ∷ ‵ (MutSlice (named 1) κ′ Mv.the-row .own y (vy ∷ [])) ∷ []) ∵
+        says ! (moves-few h c (x .now) (length (y .now)) r T′ met, moves-fit h c (x .now) (length (y .now)) r T′ met) $
+        nothing ! $ move ! (1 ∷ 0 ∷ []) $ join ! $ frame ! $ nothing ! $ move ! (1 ∷ 0 ∷ []) $ fjoin ! $
+        owned ! P.the-row (Is P.the-row) (LL.makes P.the-type P′.the-plain 𝓤 H A) (r .plan) _ is-plan $ fjoin ! $ done !
 
     abbrev report : Report
     report = record { answer = r .answer; moves = r .plan .n }
@@ -164,22 +170,26 @@ module _ {M : Type 1} (𝓤 : URA M) (H : Heap 𝓤) (A : Atoms 𝓤) (W : Given
           move ! (2 ∷ []) $ split ! $ move ! (0 ∷ 4 ∷ []) $ use2 W (raw (Fill 𝓤 H A mem run .pre to-fill)) goes-fill $
           -- [what `fill` asks; true; the last table; its token; _12; …]
           calls-at ! (fmOf 𝓤 H (W .laws) 𝓣) (Fill 𝓤 H A mem run) known-fill to-fill (and-then ! (val ! 16 refl) (and-then ! (val ! 4 refl) (no-more !))) (λ u.
-          answers ! tt fill.ended (fill.clauses 𝓤 H A mem run) to-fill u (λ _ ws. ws .1 .0 ≡ movesIn (r .plan) ++ dropped (r .plan .n) (y .now)) (λ _ ws. id⊢ 𝓤 _) (λ t ws e is-unit. drop ! $
-          land ! (from ! (stop !)) (init ! 9 refl (nothing-lawful 𝓤 H A W .typed t _ is-unit .0)) $ fsplit ! $ drop ! $ last-list ! (λ len′. move ! (1 ∷ []) $ drop ! $
+          answers 𝓤 H A fill.ended (fill.clauses 𝓤 H A mem run) to-fill ! tt u (λ _ ws. ws .1 .0 ≡ movesIn (r .plan) ++ dropped (r .plan .n) (y .now)) (λ _ ws. id⊢ 𝓤 _) (λ t ws e is-unit. drop ! $
+          land ! (from ! (stop !)) (init ! 9 refl (nothing-lawful 𝓤 H A W .typed t _ is-unit .0)) $ fsplit ! $ drop ! $
+          last-list ! (λ len′. move ! (1 ∷ []) $ drop ! $
           -- [the last list; its token; true; the last table; its token; _12; …]
           assigns ! (agg ! (and-then ! (load ! (from ! (fld ! refl (stop !))) (look-in ! 19 (sub ! 0 refl (whole !)))) (and-then ! (load ! (from ! (fld ! refl (stop !))) (look-in ! 17 (sub ! 0 refl (whole !)))) (no-more !)))) (from ! (stop !))
           (init ! 29 refl (LL.lawful Rp.the-type Rp′.the-laws 𝓤 H A W .typed report _ is-report .0)) $ returns ! (look ! 29 refl) $
           move ! (29 ∷ 30 ∷ 27 ∷ 28 ∷ 25 ∷ 26 ∷ 23 ∷ 24 ∷ 21 ∷ 22 ∷ 19 ∷ 20 ∷ 17 ∷ 18 ∷ 15 ∷ 16 ∷ 13 ∷ 14 ∷ 11 ∷ 12 ∷ 9 ∷ 10 ∷ 7 ∷ 8 ∷ 5 ∷ 6 ∷ []) $
-          let-go ! $ let-go ! $ let-go ! $ let-go ! $ let-go ! $ let-go ! $ let-go ! $ let-go ! $ let-go ! $ let-go ! $ let-go ! $ let-go ! $ let-go ! $ free0 ! $ keep ! (4 ∷ 1 ∷ 3 ∷ 0 ∷ []) $ by ! (exits (ws .1 .0) e len len′))))
+          let-go ! $ let-go ! $ let-go ! $ let-go ! $ let-go ! $ let-go ! $ let-go ! $ let-go ! $ let-go ! $ let-go ! $ let-go ! $
+          let-go ! $ let-go ! $ free0 ! $ keep ! (4 ∷ 1 ∷ 3 ∷ 0 ∷ []) $ by ! (exits (ws .1 .0) e len len′))))
 
   walk : (𝓣 : Tables 𝓤 H) → Triple 𝓤 (𝓣 .C #calls·run) (Run 𝓤 H A mem run) → Triple 𝓤 (𝓣 .C #planner·fill) (Fill 𝓤 H A mem run)
       → ent 𝓤 (onEntry 𝓤 H A perform.signature (κ, (κ′, tt)) (q, (q′, tt)) a vals) (WpFn 𝓤 H (𝓣 .C) (𝓣 .Λ) code.function (vint w16 h ∷ vx ∷ vy ∷ vc ∷ []) Post)
   walk 𝓣 known-run known-fill =
       qed W ((‵ (flft κ q) ⊛ ‵ (flft κ′ q′) ⊛ ‵ ftrue) ∷ ‵ (owns (u16 ∷ MutSlice (named 0) κ u16 ∷ MutSlice (named 1) κ′ Mv.the-row ∷ Cl.the-row ∷ []) a vals) ∷ []) ∵
       enter ! (𝓣 .C) (𝓣 .Λ) code.function (vint w16 h ∷ vx ∷ vy ∷ vc ∷ []) _ $
-      alloc1 ! (λ l₀. alloc1 ! (λ l₁. alloc1 ! (λ l₂. alloc1 ! (λ l₃. alloc1 ! (λ l₄. alloc1 ! (λ l₅. alloc1 ! (λ l₆. alloc1 ! (λ l₇. alloc1 ! (λ l₈. alloc1 ! (λ l₉. alloc1 ! (λ l₁₀. alloc1 ! (λ l₁₁. alloc1 ! (λ l₁₂. alloc0 ! $ params1 ! $
+      alloc1 ! (λ l₀. alloc1 ! (λ l₁. alloc1 ! (λ l₂. alloc1 ! (λ l₃. alloc1 ! (λ l₄. alloc1 ! (λ l₅. alloc1 ! (λ l₆. alloc1 ! (λ l₇. alloc1 ! (λ l₈. alloc1 ! (λ l₉. alloc1 ! (λ l₁₀. alloc1 ! (λ l₁₁. alloc1 ! (λ l₁₂. alloc0 ! $
+      params1 ! $
       pass1 ! (init ! 22 refl (tt, record { fits = h-fits })) $ pass1 ! (init ! 20 refl (tt, (tt, (record { fits = room .0 }, tt)))) $
-      pass1 ! (init ! 18 refl (tt, (tt, (record { fits = room′ .0 }, tt)))) $ pass1 ! (init ! 16 refl (EL.lawful Cl.the-type Cl′.the-laws 𝓤 H A W tt .typed c _ is-call .0)) $ pass0 ! $
+      pass1 ! (init ! 18 refl (tt, (tt, (record { fits = room′ .0 }, tt)))) $
+      pass1 ! (init ! 16 refl (EL.lawful Cl.the-type Cl′.the-laws 𝓤 H A W tt .typed c _ is-call .0)) $ pass0 ! $
       -- [_12; …; _11; …; _10; …; _9; …; _8; …; _7; …; _6; …; _5; …; _4; …; _3; …; _2; …; _1; …; _0; …; the tokens; what the parameters own]
       assigns ! (addr ! (from ! (fld ! refl (hop ! (look-in ! 20 (sub ! 0 refl (whole !))) (stop !))))) (from ! (stop !)) (init ! 10 refl (tt, tt)) $
       assigns ! (agg ! (and-then ! (val ! 10 refl) (and-then ! (load ! (from ! (fld ! refl (stop !))) (look-in ! 20 (sub ! 1 refl (whole !)))) (no-more !)))) (from ! (stop !)) (init ! 8 refl (tt, (tt, (record { fits = room .0 }, tt)))) $
@@ -188,10 +198,11 @@ module _ {M : Type 1} (𝓤 : URA M) (H : Heap 𝓤) (A : Atoms 𝓤) (W : Given
       -- [a token; the other; what the list's borrow owns; what the table's borrow owns; _12; …]
       move ! (0 ∷ 3 ∷ []) $ use2 W (raw (Run 𝓤 H A mem run .pre to-run)) goes-run $
       calls-at ! (fmOf 𝓤 H (W .laws) 𝓣) (Run 𝓤 H A mem run) known-run to-run (and-then ! (val ! 25 refl) (and-then ! (val ! 11 refl) (and-then ! (val ! 9 refl) (and-then ! (val ! 19 refl) (no-more !))))) (λ v.
-      answers ! tt ran.ended (ran.clauses 𝓤 H A mem run) to-run v (λ r ws. Gives (step h (x .now) (callOf c (length (y .now)))) r (ws .1 .0)) (λ r ws. id⊢ 𝓤 _) (λ r ws met is. drop ! $
+      answers 𝓤 H A ran.ended (ran.clauses 𝓤 H A mem run) to-run ! tt v (λ r ws. Gives (step h (x .now) (callOf c (length (y .now)))) r (ws .1 .0)) (λ r ws. id⊢ 𝓤 _) (λ r ws met is. drop ! $
       land ! (from ! (stop !)) (init ! 18 refl (LL.lawful Cd.the-type Cd′.the-laws 𝓤 H A W .typed r _ is .0)) $
       rewrite ! 18 (λ (u : Val). ‵ (fat fullShare Cd′.mir l₅ 0 u)) (ap only (LL.tells Cd.the-type Cd′.the-laws r _ is)) refl $
-      fsplit ! $ drop ! $ last-list ! (λ len. move ! (1 ∷ []) $ drop ! $ fills r (ws .1 .0) (subst (Is Cd.the-row r) (LL.tells Cd.the-type Cd′.the-laws r _ is) is) met 𝓣 known-fill l₀ l₁ l₂ l₃ l₄ l₅ l₆ l₇ l₈ l₉ l₁₀ l₁₁ l₁₂ len))))))))))))))))
+      fsplit ! $ drop ! $ last-list ! (λ len. move ! (1 ∷ []) $ drop ! $
+      fills r (ws .1 .0) (subst (Is Cd.the-row r) (LL.tells Cd.the-type Cd′.the-laws r _ is) is) met 𝓣 known-fill l₀ l₁ l₂ l₃ l₄ l₅ l₆ l₇ l₈ l₉ l₁₀ l₁₁ l₁₂ len))))))))))))))))
 
 module _ {M : Type 1} (𝓤 : URA M) (H : Heap 𝓤) (A : Atoms 𝓤) (W : Given 𝓤 H A) (mem : Memory → SProp 𝓤) (run : Routine → Fun 𝓤) (𝓣 : Tables 𝓤 H)
     (known-run : Triple 𝓤 (𝓣 .C #calls·run) (Run 𝓤 H A mem run)) (known-fill : Triple 𝓤 (𝓣 .C #planner·fill) (Fill 𝓤 H A mem run)) where

@@ -17,9 +17,11 @@ use prog.Wp.{Heap, Env, WpFn, Tables}
 use ghost.Atoms.{Atoms, sem}
 use contract.Monad.{Fun}
 use contract.Running.{givenOf, tables, tablesOf}
-use types.Kit.{Given, ‵, raw, _⊛_, some, later, given, runs, atRet, Sq, _$_, _∵_, !, qed, by, move, use1, use2, use3, drop, split, split3, join, pick, learn, rewrite, fsplit, fjoin, suffices, frame, await, done}
+use types.Kit.{Given, ‵, raw, _⊛_, some, later, given, runs, atRet, Sq, _$_, _∵_, !, qed, by, move, use1, use2}
+use types.Kit.{use3, drop, split, split3, join, pick, learn, rewrite, fsplit, fjoin, suffices, frame, await, done}
 use types.Tokens.{lft-new, lft-end}
-use types.Run.{look, init, stop, hop, fld, from, load, lit, addr, of-opd, and-then, no-more, assigns, land, returns, enter, alloc1, alloc0, params1, pass1, pass0, free0}
+use types.Run.{look, init, stop, hop, fld, from, load, lit, addr, of-opd, and-then, no-more}
+use types.Run.{assigns, land, returns, enter, alloc1, alloc0, params1, pass1, pass0, free0}
 use types.Part.{agg, rep, whole, sub, look-in}
 use types.SemTy.{cells, Arr}
 use sound.WpLaws.{fmOf, WpFn-mono}
@@ -127,7 +129,8 @@ module _ {M : Type 1} (𝓤 : URA M) (H : Heap 𝓤) (A : Atoms 𝓤) (W : Given
         qed W (((‵ (flft κ q) ⊛ ‵ ftrue) ⊛ ‵ (flft (α ∷ []) fullShare)) ∷ ‵ (MutSlice (named 0) κ u16 .own x (vx ∷ [])) ∷ ‵ (MutSlice (named 1) (α ∷ []) Mv.the-row .own (lent γ) (vl ∷ [])) ∷ []) ∵
         split ! $ split ! $ move ! (2 ∷ 1 ∷ []) $ join ! $ move ! (1 ∷ 0 ∷ []) $ join ! $
         -- [the tokens; what the table's borrow owns; what the list's borrow owns]
-        nothing ! $ owned ! Cl.the-row (Is Cl.the-row) (EL.makes Cl.the-type Cl′.the-plain 𝓤 H A) c _ is-call $ fjoin ! $ move ! (3 ∷ 0 ∷ []) $ fjoin ! $ move ! (2 ∷ 0 ∷ []) $ fjoin ! $
+        nothing ! $ owned ! Cl.the-row (Is Cl.the-row) (EL.makes Cl.the-type Cl′.the-plain 𝓤 H A) c _ is-call $ fjoin ! $
+        move ! (3 ∷ 0 ∷ []) $ fjoin ! $ move ! (2 ∷ 0 ∷ []) $ fjoin ! $
         owned ! u16 (Is u16) (uint-makes 𝓤 H A W w16) h _ (refl, h-fits) $ fjoin ! $ move ! (1 ∷ 0 ∷ []) $ join ! $ frame ! $ done !
 
     -- `perform` has reported r, at the table T′ and the list M′
@@ -155,7 +158,8 @@ module _ {M : Type 1} (𝓤 : URA M) (H : Heap 𝓤) (A : Atoms 𝓤) (W : Given
         exits =
             qed W (‵ (flft κ q) ∷ ‵ ftrue ∷ ‵ (finally u16 (x .name) T′) ∷ []) ∵
             suffices ! _ (ends-at 𝓤 H A on-four.ended stayed (on-four.clauses 𝓤 H A at-mem run) W (((κ, tt), (q, tt), tt, a, vals), tt) vd called (tt, (T′, (tt, tt))) (tt, (len, (tt, tt)))) $
-            says ! (by-value h c (x .now) r T′ M′ met) $ join ! $ frame ! $ nothing ! $ nothing ! $ fjoin ! $ move ! (1 ∷ 0 ∷ []) $ fjoin ! $ nothing ! $ fjoin ! $
+            says ! (by-value h c (x .now) r T′ M′ met) $ join ! $ frame ! $ nothing ! $ nothing ! $ fjoin ! $ move ! (1 ∷ 0 ∷ []) $
+            fjoin ! $ nothing ! $ fjoin ! $
             owned ! Cd.the-row (Is Cd.the-row) (LL.makes Cd.the-type Cd′.the-plain 𝓤 H A) called _ is-called $ move ! (1 ∷ 0 ∷ []) $ done !
 
       -- from the call of `perform` on: the lifetime is ended, and the array taken back
@@ -169,22 +173,28 @@ module _ {M : Type 1} (𝓤 : URA M) (H : Heap 𝓤) (A : Atoms 𝓤) (W : Given
       takes 𝓣 α γ l₀ l₁ l₂ l₃ l₄ l₆ l₇ l₈ l₉ l₁₀ l₁₁ l₁₂ vu =
           move ! (2 ∷ []) $ use1 W (‵ (flft κ q) ⊛ ‵ (flft (α ∷ []) fullShare) ⊛ ‵ ftrue) (id⊢ 𝓤 _) $ split3 ! $ move ! (1 ∷ []) $ lft-end ! tt $
           -- [the lifetime has ended; a token; true; the last list; the last table; the lender's part; _12; …]
-          move ! (0 ∷ 5 ∷ 3 ∷ []) $ use3 W (later (‵ (Arr (mem Mv.the-row) 4 .lies M′ l₅ 0))) (slice-back 𝓤 H A W Mv.the-row (α ∷ []) γ M′ 4 l₅ 0) $ await ! tt $
+          move ! (0 ∷ 5 ∷ 3 ∷ []) $
+          use3 W (later (‵ (Arr (mem Mv.the-row) 4 .lies M′ l₅ 0))) (slice-back 𝓤 H A W Mv.the-row (α ∷ []) γ M′ 4 l₅ 0) $ await ! tt $
           use1 W (given (Is Four M′ (valueOf M′ ∷ [])) (‵ (fat fullShare array l₅ 0 (valueOf M′)))) (taken-back 𝓤 H A W l₅ M′) $ learn ! (λ is-list.
           -- [_5; the token; true; the last table; _12; …; _11; …; _10; …; _9; …; _8; …; _7; …; _6; …; that _5 dies; _4; …; _3; …; _2; …; _1; …; _0; …]
           assigns ! (of-opd ! (val ! 0 refl)) (from ! (stop !)) (init ! 6 refl (array-typed Mv.the-row (LL.lawful Mv.the-type Mv′.the-laws 𝓤 H A W .typed) 4 M′ _ is-list .0)) $
           assigns ! (agg ! (and-then ! (load ! (from ! (fld ! refl (stop !))) (look-in ! 16 (sub ! 1 refl (whole !)))) (and-then ! (val ! 6 refl) (no-more !)))) (from ! (stop !)) (init ! 4 refl (LL.lawful P.the-type P′.the-laws 𝓤 H A W .typed (called .plan) _ (is-plan is-list) .0)) $
           assigns ! (agg ! (and-then ! (load ! (from ! (fld ! refl (stop !))) (look-in ! 16 (sub ! 0 refl (whole !)))) (and-then ! (val ! 4 refl) (no-more !)))) (from ! (stop !)) (init ! 27 refl (LL.lawful Cd.the-type Cd′.the-laws 𝓤 H A W .typed called _ (is-called is-list) .0)) $
-          returns ! (look ! 27 refl) $ move ! (27 ∷ 28 ∷ 25 ∷ 26 ∷ 23 ∷ 24 ∷ 21 ∷ 22 ∷ 19 ∷ 20 ∷ 0 ∷ 18 ∷ 16 ∷ 17 ∷ 14 ∷ 15 ∷ 12 ∷ 13 ∷ 10 ∷ 11 ∷ 8 ∷ 9 ∷ 6 ∷ 7 ∷ 4 ∷ 5 ∷ []) $
-          let-go ! $ let-go ! $ let-go ! $ let-go ! $ let-go ! $ let-go ! $ let-go ! $ let-go ! $ let-go ! $ let-go ! $ let-go ! $ let-go ! $ let-go ! $ free0 ! $ by ! (exits is-list))
+          returns ! (look ! 27 refl) $
+          move ! (27 ∷ 28 ∷ 25 ∷ 26 ∷ 23 ∷ 24 ∷ 21 ∷ 22 ∷ 19 ∷ 20 ∷ 0 ∷ 18 ∷ 16 ∷ 17 ∷ 14 ∷ 15 ∷ 12 ∷ 13 ∷ 10 ∷ 11 ∷ 8 ∷ 9 ∷ 6 ∷ 7 ∷ 4 ∷ 5 ∷ []) $
+          let-go ! $ let-go ! $ let-go ! $ let-go ! $ let-go ! $ let-go ! $ let-go ! $ let-go ! $ let-go ! $ let-go ! $ let-go ! $
+          let-go ! $ let-go ! $ free0 ! $ by ! (exits is-list))
 
   walk : (𝓣 : Tables 𝓤 H) → Triple 𝓤 (𝓣 .C #planner·perform) (Perform 𝓤 H A at-mem run)
       → ent 𝓤 (onEntry 𝓤 H A on-four.signature (κ, tt) (q, tt) a vals) (WpFn 𝓤 H (𝓣 .C) (𝓣 .Λ) code.function (vint w16 h ∷ vx ∷ vc ∷ []) Post)
   walk 𝓣 known =
       let zero : Fits w16 0 = record { fits = lit< tt } in
-      qed W ((‵ (flft κ q) ⊛ ‵ ftrue) ∷ ‵ (owns (u16 ∷ MutSlice (named 0) κ u16 ∷ Cl.the-row ∷ []) a vals) ∷ []) ∵ enter ! (𝓣 .C) (𝓣 .Λ) code.function (vint w16 h ∷ vx ∷ vc ∷ []) _ $
-      alloc1 ! (λ l₀. alloc1 ! (λ l₁. alloc1 ! (λ l₂. alloc1 ! (λ l₃. alloc1 ! (λ l₄. alloc1 ! (λ l₅. alloc1 ! (λ l₆. alloc1 ! (λ l₇. alloc1 ! (λ l₈. alloc1 ! (λ l₉. alloc1 ! (λ l₁₀. alloc1 ! (λ l₁₁. alloc1 ! (λ l₁₂. alloc0 ! $ params1 ! $
-      pass1 ! (init ! 22 refl (tt, record { fits = h-fits })) $ pass1 ! (init ! 20 refl (tt, (tt, (record { fits = room .0 }, tt)))) $ pass1 ! (init ! 18 refl (EL.lawful Cl.the-type Cl′.the-laws 𝓤 H A W tt .typed c _ is-call .0)) $ pass0 ! $
+      qed W ((‵ (flft κ q) ⊛ ‵ ftrue) ∷ ‵ (owns (u16 ∷ MutSlice (named 0) κ u16 ∷ Cl.the-row ∷ []) a vals) ∷ []) ∵
+      enter ! (𝓣 .C) (𝓣 .Λ) code.function (vint w16 h ∷ vx ∷ vc ∷ []) _ $
+      alloc1 ! (λ l₀. alloc1 ! (λ l₁. alloc1 ! (λ l₂. alloc1 ! (λ l₃. alloc1 ! (λ l₄. alloc1 ! (λ l₅. alloc1 ! (λ l₆. alloc1 ! (λ l₇. alloc1 ! (λ l₈. alloc1 ! (λ l₉. alloc1 ! (λ l₁₀. alloc1 ! (λ l₁₁. alloc1 ! (λ l₁₂. alloc0 ! $
+      params1 ! $
+      pass1 ! (init ! 22 refl (tt, record { fits = h-fits })) $ pass1 ! (init ! 20 refl (tt, (tt, (record { fits = room .0 }, tt)))) $
+      pass1 ! (init ! 18 refl (EL.lawful Cl.the-type Cl′.the-laws 𝓤 H A W tt .typed c _ is-call .0)) $ pass0 ! $
       -- [_12; …; _11; …; _10; …; _9; …; _8; …; _7; …; _6; …; _5; …; _4; …; _3; …; _2; …; _1; …; _0; …; the token; what the parameters own]
       assigns ! (agg ! (and-then ! (lit ! tt) (and-then ! (lit ! tt) (and-then ! (lit ! tt) (no-more !))))) (from ! (stop !)) (init ! 16 refl (tt, (zero, (zero, (zero, tt))))) $
       assigns ! (rep ! 4 (val ! 16 refl)) (from ! (stop !)) (init ! 14 refl (array-typed Mv.the-row (LL.lawful Mv.the-type Mv′.the-laws 𝓤 H A W .typed) 4 unused _ is-unused .0)) $
@@ -193,13 +203,16 @@ module _ {M : Type 1} (𝓤 : URA M) (H : Heap 𝓤) (A : Atoms 𝓤) (W : Given
       assigns ! (addr ! (from ! (stop !))) (from ! (stop !)) (init ! 6 refl (tt, tt)) $
       assigns ! (agg ! (and-then ! (val ! 6 refl) (and-then ! (lit ! tt) (no-more !)))) (from ! (stop !)) (init ! 4 refl (tt, (tt, (record { fits = lit< tt }, tt)))) $
       -- the array is lent for a lifetime α that is made here
-      move ! (27 ∷ []) $ fsplit ! $ drop ! $ fsplit ! $ move ! (1 ∷ []) $ drop ! $ owned ! Four (Is Four) (array-makes 𝓤 H A W Mv.the-row (LL.makes Mv.the-type Mv′.the-plain 𝓤 H A) 4) unused _ is-unused $
-      move ! (16 ∷ 0 ∷ []) $ use2 W (‵ (cells (mem Mv.the-row) unused l₅ 0)) (lent-out 𝓤 H A W l₅ unused (valueOf unused)) $ lft-new ! tt (λ α. move ! (1 ∷ []) $
-      use1 W (later (some (λ (γ : GName). ‵ (MutSlice (named 1) (α ∷ []) Mv.the-row .own (lent l₅ γ) (vl l₅ ∷ [])) ⊛ ‵ (flent (α ∷ []) (Held Mv.the-row 4 l₅ 0 γ))))) (lends-slice 𝓤 H A W Mv.the-row (named 1) (α ∷ []) unused l₅ 0 room-for-four) $ await ! tt $ pick ! (λ γ. split ! $
+      move ! (27 ∷ []) $ fsplit ! $ drop ! $ fsplit ! $ move ! (1 ∷ []) $ drop ! $
+      owned ! Four (Is Four) (array-makes 𝓤 H A W Mv.the-row (LL.makes Mv.the-type Mv′.the-plain 𝓤 H A) 4) unused _ is-unused $
+      move ! (16 ∷ 0 ∷ []) $ use2 W (‵ (cells (mem Mv.the-row) unused l₅ 0)) (lent-out 𝓤 H A W l₅ unused (valueOf unused)) $
+      lft-new ! tt (λ α. move ! (1 ∷ []) $
+      use1 W (later (some (λ (γ : GName). ‵ (MutSlice (named 1) (α ∷ []) Mv.the-row .own (lent l₅ γ) (vl l₅ ∷ [])) ⊛ ‵ (flent (α ∷ []) (Held Mv.the-row 4 l₅ 0 γ))))) (lends-slice 𝓤 H A W Mv.the-row (named 1) (α ∷ []) unused l₅ 0 room-for-four) $
+      await ! tt $ pick ! (λ γ. split ! $
       -- [what the list's borrow owns; the lender's part; α's token; what the table's borrow owns; _12; …; _6; …; that _5 dies; _4; …; _0; …; the token]
       move ! (29 ∷ 2 ∷ 3 ∷ 0 ∷ []) $ join ! $ use3 W (raw (Perform 𝓤 H A at-mem run .pre (to-perform l₅ α γ))) (goes l₅ α γ) $
       calls-at ! (fmOf 𝓤 H (W .laws) 𝓣) (Perform 𝓤 H A at-mem run) known (to-perform l₅ α γ) (and-then ! (val ! 23 refl) (and-then ! (val ! 10 refl) (and-then ! (val ! 6 refl) (and-then ! (val ! 19 refl) (no-more !))))) (λ v.
-      answers ! tt perform.ended (perform.clauses 𝓤 H A at-mem run) (to-perform l₅ α γ) v (λ r ws. Performed h c (x .now) unused r (ws .1 .0) (ws .1 .1 .0)) (λ r ws. id⊢ 𝓤 _) (λ r ws met is. drop ! $
+      answers 𝓤 H A perform.ended (perform.clauses 𝓤 H A at-mem run) (to-perform l₅ α γ) ! tt v (λ r ws. Performed h c (x .now) unused r (ws .1 .0) (ws .1 .1 .0)) (λ r ws. id⊢ 𝓤 _) (λ r ws met is. drop ! $
       land ! (from ! (stop !)) (init ! 15 refl (LL.lawful Rp.the-type Rp′.the-laws 𝓤 H A W .typed r _ is .0)) $
       rewrite ! 15 (λ (u : Val). ‵ (fat fullShare Rp′.mir l₆ 0 u)) (ap only (LL.tells Rp.the-type Rp′.the-laws r _ is)) refl $
       fsplit ! $ drop ! $ last-list ! (λ len. move ! (1 ∷ []) $ last-list ! (λ len′. move ! (1 ∷ []) $ drop ! $
