@@ -57,7 +57,7 @@ use Rattle.table.proofs.Move as Mv
 use Rattle.table.proofs.Move.Laws as Mv′
 use Rattle.table.proofs.plan.Plan as P
 use Rattle.table.proofs.plan.Plan.Laws as P′
-use Rattle.planner.proofs.Walk.{empty, full, word, plan-length, list, val, let-go, answers}
+use Rattle.planner.proofs.Walk.{empty, full, word, plan-length, list, val, field-val, let-go, answers}
 use Rattle.planner.proofs.Front.{front, length-of-front, front-next}
 use Rattle.planner.proofs.move_at as move-at
 use Rattle.planner.proofs.move_at.Symbol as move-at-def
@@ -174,7 +174,7 @@ module _ {M : Type 1} (𝓤 : URA M) (H : Heap 𝓤) (A : Atoms 𝓤) (W : Given
         land ! (from ! (stop !)) (init ! 9 refl typed) $
         -- [what the move owns; the row; …]: its place
         assigns ! (bin ! (val ! 13 refl) (lit ! tt) (record { fits = bytes-fit })) (from ! (stop !)) (init ! 7 refl (tt, record { fits = bytes-fit })) $
-        assigns ! (bin ! (load ! (from ! (fld ! refl (stop !))) (look-in ! 17 (sub ! 0 refl (whole !)))) (val ! 7 refl) tt) (from ! (stop !)) (init ! 5 refl (tt, tt)) $
+        assigns ! (bin ! (field-val ! 17 0 (whole !) refl refl) (val ! 7 refl) tt) (from ! (stop !)) (init ! 5 refl (tt, tt)) $
         rewrite ! 5 (λ (k : ℕ). ‵ (fat fullShare tyPtr l₈ 0 (vptr b k))) (sym (place-is 6 o (i .0))) refl $
         move ! (1 ∷ []) $
         elem-out ! Mv.the-row (Is Mv.the-row) (shows 𝓤 H A Mv.the-row) (LL.vals Mv.the-type Mv′.the-laws) (LL.tells Mv.the-type Mv′.the-laws) fullShare (listed (i .0)) (i .0) no-move b o within-list (λ _.
@@ -211,7 +211,7 @@ module _ {M : Type 1} (𝓤 : URA M) (H : Heap 𝓤) (A : Atoms 𝓤) (W : Given
     starts : Sq W (empty tyPtr l₈ (empty word l₇ (empty Mv′.mir l₆ (empty tyBool l₅ (empty word l₄ (empty word l₃ (Kept ((‵ (flft κ q) ⊛ ‵ ftrue) ∷ ‵ (owns (P.the-row ∷ MutSlice (named 0) κ Mv.the-row ∷ []) a vals) ∷ []))))))))
         (runs (𝓣 .C) (𝓣 .Λ) En body.t-1 (atRet En Post))
     starts =
-        assigns ! (of-opd ! (load ! (from ! (fld ! refl (stop !))) (look-in ! 14 (sub ! 0 refl (whole !))))) (from ! (stop !)) (init ! 10 refl (tt, record { fits = omega arith })) $
+        assigns ! (of-opd ! (field-val ! 14 0 (whole !) refl refl)) (from ! (stop !)) (init ! 10 refl (tt, record { fits = omega arith })) $
         assigns ! (of-opd ! (lit ! tt)) (from ! (stop !)) (init ! 8 refl (tt, record { fits = lit< tt })) $
         move ! (19 ∷ []) $ fsplit ! $ drop ! $ fsplit ! $ fsplit ! $ drop ! $ fsplit ! $ move ! (21 ∷ []) $ split ! $
         move ! (2 ∷ 3 ∷ 0 ∷ []) $ opens-slice ! tt Mv.the-row ys b o $

@@ -57,7 +57,7 @@ use Rattle.calls.proofs.Call.Laws as Cl′
 use Rattle.planner.proofs.Report as Rp
 use Rattle.planner.proofs.Report.Laws as Rp′
 use Rattle.planner.proofs.Performing.{moves-few, moves-fit, performed}
-use Rattle.planner.proofs.Walk.{empty, full, word, entries, list, val, let-go, answers, last-list}
+use Rattle.planner.proofs.Walk.{empty, full, word, entries, list, val, field-val, let-go, answers, last-list}
 use Rattle.calls.proofs.run as ran
 use Rattle.calls.proofs.run.Symbol as ran-def
 use Rattle.calls.proofs.run.Symbol.{name as #calls·run}
@@ -164,9 +164,9 @@ module _ {M : Type 1} (𝓤 : URA M) (H : Heap 𝓤) (A : Atoms 𝓤) (W : Given
           (full (entries (named 0)) l₂ vx (full (tyInt w16) l₁ (vint w16 h) (empty Rp′.mir l₀ [])))))))))))))
           (runs (𝓣 .C) (𝓣 .Λ) En body.t-5 (atRet En Post))
       fills len =
-          assigns ! (of-opd ! (load ! (from ! (fld ! refl (stop !))) (look-in ! 18 (sub ! 1 refl (whole !))))) (from ! (stop !)) (init ! 16 refl (LL.lawful P.the-type P′.the-laws 𝓤 H A W .typed (r .plan) _ is-plan .0)) $
+          assigns ! (of-opd ! (field-val ! 18 1 (whole !) refl refl)) (from ! (stop !)) (init ! 16 refl (LL.lawful P.the-type P′.the-laws 𝓤 H A W .typed (r .plan) _ is-plan .0)) $
           assigns ! (addr ! (from ! (fld ! refl (hop ! (look-in ! 22 (sub ! 0 refl (whole !))) (stop !))))) (from ! (stop !)) (init ! 6 refl (tt, tt)) $
-          assigns ! (agg ! (and-then ! (val ! 6 refl) (and-then ! (load ! (from ! (fld ! refl (stop !))) (look-in ! 22 (sub ! 1 refl (whole !)))) (no-more !)))) (from ! (stop !)) (init ! 4 refl (tt, (tt, (record { fits = room′ .0 }, tt)))) $
+          assigns ! (agg ! (and-then ! (val ! 6 refl) (and-then ! (field-val ! 22 1 (whole !) refl refl) (no-more !)))) (from ! (stop !)) (init ! 4 refl (tt, (tt, (record { fits = room′ .0 }, tt)))) $
           move ! (2 ∷ []) $ split ! $ move ! (0 ∷ 4 ∷ []) $ use2 W (raw (Fill 𝓤 H A mem run .pre to-fill)) goes-fill $
           -- [what `fill` asks; true; the last table; its token; _12; …]
           calls-at ! (fmOf 𝓤 H (W .laws) 𝓣) (Fill 𝓤 H A mem run) known-fill to-fill (and-then ! (val ! 16 refl) (and-then ! (val ! 4 refl) (no-more !))) (λ u.
@@ -174,7 +174,7 @@ module _ {M : Type 1} (𝓤 : URA M) (H : Heap 𝓤) (A : Atoms 𝓤) (W : Given
           land ! (from ! (stop !)) (init ! 9 refl (nothing-lawful 𝓤 H A W .typed t _ is-unit .0)) $ fsplit ! $ drop ! $
           last-list ! (λ len′. move ! (1 ∷ []) $ drop ! $
           -- [the last list; its token; true; the last table; its token; _12; …]
-          assigns ! (agg ! (and-then ! (load ! (from ! (fld ! refl (stop !))) (look-in ! 19 (sub ! 0 refl (whole !)))) (and-then ! (load ! (from ! (fld ! refl (stop !))) (look-in ! 17 (sub ! 0 refl (whole !)))) (no-more !)))) (from ! (stop !))
+          assigns ! (agg ! (and-then ! (field-val ! 19 0 (whole !) refl refl) (and-then ! (field-val ! 17 0 (whole !) refl refl) (no-more !)))) (from ! (stop !))
           (init ! 29 refl (LL.lawful Rp.the-type Rp′.the-laws 𝓤 H A W .typed report _ is-report .0)) $ returns ! (look ! 29 refl) $
           move ! (29 ∷ 30 ∷ 27 ∷ 28 ∷ 25 ∷ 26 ∷ 23 ∷ 24 ∷ 21 ∷ 22 ∷ 19 ∷ 20 ∷ 17 ∷ 18 ∷ 15 ∷ 16 ∷ 13 ∷ 14 ∷ 11 ∷ 12 ∷ 9 ∷ 10 ∷ 7 ∷ 8 ∷ 5 ∷ 6 ∷ []) $
           let-go ! $ let-go ! $ let-go ! $ let-go ! $ let-go ! $ let-go ! $ let-go ! $ let-go ! $ let-go ! $ let-go ! $ let-go ! $
@@ -192,8 +192,8 @@ module _ {M : Type 1} (𝓤 : URA M) (H : Heap 𝓤) (A : Atoms 𝓤) (W : Given
       pass1 ! (init ! 16 refl (EL.lawful Cl.the-type Cl′.the-laws 𝓤 H A W tt .typed c _ is-call .0)) $ pass0 ! $
       -- [_12; …; _11; …; _10; …; _9; …; _8; …; _7; …; _6; …; _5; …; _4; …; _3; …; _2; …; _1; …; _0; …; the tokens; what the parameters own]
       assigns ! (addr ! (from ! (fld ! refl (hop ! (look-in ! 20 (sub ! 0 refl (whole !))) (stop !))))) (from ! (stop !)) (init ! 10 refl (tt, tt)) $
-      assigns ! (agg ! (and-then ! (val ! 10 refl) (and-then ! (load ! (from ! (fld ! refl (stop !))) (look-in ! 20 (sub ! 1 refl (whole !)))) (no-more !)))) (from ! (stop !)) (init ! 8 refl (tt, (tt, (record { fits = room .0 }, tt)))) $
-      assigns ! (of-opd ! (load ! (from ! (fld ! refl (stop !))) (look-in ! 18 (sub ! 1 refl (whole !))))) (from ! (stop !)) (init ! 6 refl (tt, record { fits = room′ .0 })) $
+      assigns ! (agg ! (and-then ! (val ! 10 refl) (and-then ! (field-val ! 20 1 (whole !) refl refl) (no-more !)))) (from ! (stop !)) (init ! 8 refl (tt, (tt, (record { fits = room .0 }, tt)))) $
+      assigns ! (of-opd ! (field-val ! 18 1 (whole !) refl refl)) (from ! (stop !)) (init ! 6 refl (tt, record { fits = room′ .0 })) $
       move ! (27 ∷ []) $ fsplit ! $ drop ! $ fsplit ! $ move ! (1 ∷ []) $ fsplit ! $ move ! (1 ∷ []) $ drop ! $ move ! (28 ∷ []) $ split ! $
       -- [a token; the other; what the list's borrow owns; what the table's borrow owns; _12; …]
       move ! (0 ∷ 3 ∷ []) $ use2 W (raw (Run 𝓤 H A mem run .pre to-run)) goes-run $

@@ -63,7 +63,7 @@ use Rattle.planner.proofs.Report as Rp
 use Rattle.planner.proofs.Report.Laws as Rp′
 use Rattle.planner.proofs.ByValue.{by-value}
 use Rattle.planner.proofs.OwnList.{Four, array, valueOf, lent-out, taken-back, plan-of-list}
-use Rattle.planner.proofs.Walk.{empty, full, entries, list, val, let-go, answers, last-list}
+use Rattle.planner.proofs.Walk.{empty, full, entries, list, val, field-val, let-go, answers, last-list}
 use Rattle.planner.proofs.perform as perform
 use Rattle.planner.proofs.perform.Symbol as perform-def
 use Rattle.planner.proofs.perform.Symbol.{name as #planner·perform}
@@ -178,8 +178,8 @@ module _ {M : Type 1} (𝓤 : URA M) (H : Heap 𝓤) (A : Atoms 𝓤) (W : Given
           use1 W (given (Is Four M′ (valueOf M′ ∷ [])) (‵ (fat fullShare array l₅ 0 (valueOf M′)))) (taken-back 𝓤 H A W l₅ M′) $ learn ! (λ is-list.
           -- [_5; the token; true; the last table; _12; …; _11; …; _10; …; _9; …; _8; …; _7; …; _6; …; that _5 dies; _4; …; _3; …; _2; …; _1; …; _0; …]
           assigns ! (of-opd ! (val ! 0 refl)) (from ! (stop !)) (init ! 6 refl (array-typed Mv.the-row (LL.lawful Mv.the-type Mv′.the-laws 𝓤 H A W .typed) 4 M′ _ is-list .0)) $
-          assigns ! (agg ! (and-then ! (load ! (from ! (fld ! refl (stop !))) (look-in ! 16 (sub ! 1 refl (whole !)))) (and-then ! (val ! 6 refl) (no-more !)))) (from ! (stop !)) (init ! 4 refl (LL.lawful P.the-type P′.the-laws 𝓤 H A W .typed (called .plan) _ (is-plan is-list) .0)) $
-          assigns ! (agg ! (and-then ! (load ! (from ! (fld ! refl (stop !))) (look-in ! 16 (sub ! 0 refl (whole !)))) (and-then ! (val ! 4 refl) (no-more !)))) (from ! (stop !)) (init ! 27 refl (LL.lawful Cd.the-type Cd′.the-laws 𝓤 H A W .typed called _ (is-called is-list) .0)) $
+          assigns ! (agg ! (and-then ! (field-val ! 16 1 (whole !) refl refl) (and-then ! (val ! 6 refl) (no-more !)))) (from ! (stop !)) (init ! 4 refl (LL.lawful P.the-type P′.the-laws 𝓤 H A W .typed (called .plan) _ (is-plan is-list) .0)) $
+          assigns ! (agg ! (and-then ! (field-val ! 16 0 (whole !) refl refl) (and-then ! (val ! 4 refl) (no-more !)))) (from ! (stop !)) (init ! 27 refl (LL.lawful Cd.the-type Cd′.the-laws 𝓤 H A W .typed called _ (is-called is-list) .0)) $
           returns ! (look ! 27 refl) $
           move ! (27 ∷ 28 ∷ 25 ∷ 26 ∷ 23 ∷ 24 ∷ 21 ∷ 22 ∷ 19 ∷ 20 ∷ 0 ∷ 18 ∷ 16 ∷ 17 ∷ 14 ∷ 15 ∷ 12 ∷ 13 ∷ 10 ∷ 11 ∷ 8 ∷ 9 ∷ 6 ∷ 7 ∷ 4 ∷ 5 ∷ []) $
           let-go ! $ let-go ! $ let-go ! $ let-go ! $ let-go ! $ let-go ! $ let-go ! $ let-go ! $ let-go ! $ let-go ! $ let-go ! $
@@ -199,7 +199,7 @@ module _ {M : Type 1} (𝓤 : URA M) (H : Heap 𝓤) (A : Atoms 𝓤) (W : Given
       assigns ! (agg ! (and-then ! (lit ! tt) (and-then ! (lit ! tt) (and-then ! (lit ! tt) (no-more !))))) (from ! (stop !)) (init ! 16 refl (tt, (zero, (zero, (zero, tt))))) $
       assigns ! (rep ! 4 (val ! 16 refl)) (from ! (stop !)) (init ! 14 refl (array-typed Mv.the-row (LL.lawful Mv.the-type Mv′.the-laws 𝓤 H A W .typed) 4 unused _ is-unused .0)) $
       assigns ! (addr ! (from ! (fld ! refl (hop ! (look-in ! 20 (sub ! 0 refl (whole !))) (stop !))))) (from ! (stop !)) (init ! 10 refl (tt, tt)) $
-      assigns ! (agg ! (and-then ! (val ! 10 refl) (and-then ! (load ! (from ! (fld ! refl (stop !))) (look-in ! 20 (sub ! 1 refl (whole !)))) (no-more !)))) (from ! (stop !)) (init ! 8 refl (tt, (tt, (record { fits = room .0 }, tt)))) $
+      assigns ! (agg ! (and-then ! (val ! 10 refl) (and-then ! (field-val ! 20 1 (whole !) refl refl) (no-more !)))) (from ! (stop !)) (init ! 8 refl (tt, (tt, (record { fits = room .0 }, tt)))) $
       assigns ! (addr ! (from ! (stop !))) (from ! (stop !)) (init ! 6 refl (tt, tt)) $
       assigns ! (agg ! (and-then ! (val ! 6 refl) (and-then ! (lit ! tt) (no-more !)))) (from ! (stop !)) (init ! 4 refl (tt, (tt, (record { fits = lit< tt }, tt)))) $
       -- the array is lent for a lifetime α that is made here
