@@ -1,17 +1,15 @@
 -- Demand 2 for every height, table and call.
 use mathlib.Core.Path.{_≡_, refl, sym, ap, _∙_, subst, fun-ext}
 use mathlib.Core.Bool.{Bool, true, false, not, cond}
-use mathlib.Core.List.{List, [], _∷_, _++_}
-use mathlib.Core.Option.{Option, some, none}
-use mathlib.Core.Logic.{_⊎_, inl, inr}
-use Prim.Native.Nat.{ℕ, zero, suc, _+_, _^_, _≤_, _<_}
+use mathlib.Core.List.{List, _∷_, _++_}
+use mathlib.Core.Option.{some, none}
+use Prim.Native.Nat.{ℕ, suc, _+_, _≤_, _<_}
 use native.Mathlib.Omega.{arith}
-use native.Mathlib.Decide.{ℕ-discrete}
-use borrow.Author.Tests.{ltb-false, eqb-true, eqb-false, not-false, eq-eqb, ne-eqb}
+use borrow.Author.Tests.{eqb-true, eqb-false, not-false}
 use lib.Dec.{eqb, ltb}
-use lib.ListN.{length, getD, set, length-set}
-use Rattle.tree.specs.Node.{InTree, level}
-use Rattle.tree.specs.Held.{Nodes, Within, Legal, Safe, sizes, one-if}
+use lib.ListN.{length, getD}
+use Rattle.tree.specs.Node.{level}
+use Rattle.tree.specs.Held.{Nodes, sizes, one-if}
 use Rattle.layout.specs.Set.{layoutSet}
 use Rattle.layout.specs.Change.{oneMore, oneFewer}
 use Rattle.layout.proofs.Theorems.{layout-has-counts}
@@ -25,12 +23,13 @@ use Rattle.table.proofs.Newcomer.{granted-newcomer, granted-others, newcomer-le
 use Rattle.table.proofs.Moves.{Moves, moves-in-list, move-of, one-move-each}
 use Rattle.table.proofs.Paired.{moves-in-order, movers-paired, movers-fill, newcomer-paired}
 use Rattle.calls.specs.Call.{Call, grant-level, grant-pages, release, tenantOf, levelFor}
-use Rattle.calls.specs.Step.{Outcome, first, reserve-checks, check, validity, holdings, checks, granted, released, refused, step}
+use Rattle.calls.specs.Step.{Outcome, first, check, validity, holdings, checks, granted, released, refused, step}
 use Rattle.calls.specs.History.{Book}
 use Rattle.calls.specs.Demand.{Agrees, Asks, by-level, by-pages, Releases}
 use Rattle.calls.specs.Accepted.{Shifted, nobody, Settled, AfterGrant, AfterRelease, Demand2}
-use Rattle.calls.proofs.Checks.{Sound, answer-is-first, validity-numbered, not-applied, rest-zero}
+use Rattle.calls.proofs.Checks.{Sound, answer-is-first, validity-numbered, not-applied, rest-zero, height-passed, length-passed}
 use Rattle.calls.proofs.Room.{count-one-more}
+use Rattle.calls.proofs.Given.{above-zero}
 use Rattle.calls.proofs.Kept.{Kept}
 use Rattle.calls.proofs.Struck.{node-after-set, node-beside-set}
 use Rattle.calls.proofs.Granting.{grant-movable, grant-one-more, t-in-table, grant-in-order, grant-occupies, new-sizes}
@@ -48,10 +47,7 @@ kept-of-order h T q e o = record { height = q; entries = e; in-order = o; agrees
   where
     go : (t : ℕ) (b : Bool) → eqb (nodeAt T t) 0 ≡ b → Agrees h (cond b none (some (level h (nodeAt T t)))) (nodeAt T t)
     go t true p = eqb-true (nodeAt T t) 0 p
-    go t false p = (record { above-zero = positive (nodeAt T t) (eqb-false (nodeAt T t) 0 p); in-height = o .in-tree t }, refl)
-      where
-        positive : (n : ℕ) → ¬ (n ≡ 0) → 0 < n
-        positive n ne = omega arith
+    go t false p = (record { above-zero = above-zero (nodeAt T t) (eqb-false (nodeAt T t) 0 p); in-height = o .in-tree t }, refl)
 
 -- an accepted call has passed 1, 2 and 7
 pub sound-if-accepted : (h : ℕ) (T : List ℕ) (c : Call) → step h T c .answer ≡ 0 → Sound h T
@@ -63,8 +59,8 @@ sound-if-accepted h T c e =
     let z₃ = rest-zero 2 (not (eqb (length T) 4096)) (validity h c ++ table-on) (omega arith) z₂ in
     let z₇ = both-zero (validity h c) table-on (validity-numbered h c) z₃ .1 in
     record {
-      height = ltb-false 12 h (not-applied 1 (ltb 12 h) length-on (omega arith) z);
-      entries = eqb-true (length T) 4096 (not-false (eqb (length T) 4096) (not-applied 2 (not (eqb (length T) 4096)) (validity h c ++ table-on) (omega arith) z₂));
+      height = height-passed h length-on z;
+      entries = length-passed T (validity h c ++ table-on) z₂;
       in-order = not-false (in-order? h T) (not-applied 7 (not (in-order? h T)) (holdings h T c) (omega arith) z₇);
     }
 

@@ -4,7 +4,7 @@ use mathlib.Core.Bool.{not}
 use mathlib.Core.List.{List, _∷_, _++_}
 use Prim.Native.Nat.{ℕ, _≤_}
 use native.Mathlib.Omega.{arith}
-use borrow.Author.Tests.{ltb-false, eqb-true, ne-eqb, not-false}
+use borrow.Author.Tests.{ne-eqb}
 use lib.Dec.{eqb, ltb}
 use lib.ListN.{length}
 use Rattle.layout.specs.Rows.{no-level}
@@ -16,7 +16,8 @@ use Rattle.calls.specs.Demand.{by-level, by-pages}
 use Rattle.calls.specs.Value.{callOf}
 use Rattle.calls.specs.declared.Call.{Call as Arguments}
 use Rattle.calls.specs.declared.Call.the-variants.{GrantLevel, GrantPages, Release}
-use Rattle.calls.proofs.Checks.{Numbered, validity-numbered, first-after-none, first-stands, not-applied, rest-zero, valid-tenant, valid-level}
+use Rattle.calls.proofs.Checks.{Numbered, validity-numbered, first-after-none, first-stands, rest-zero}
+use Rattle.calls.proofs.Checks.{height-passed, length-passed, valid-tenant, valid-level}
 use Rattle.calls.proofs.Opening.{refused-unless}
 
 -- 1 to 6
@@ -39,10 +40,12 @@ module _ (h : ℕ) (T : List ℕ) (c : Call) (k : ℕ) (asked : k ≡ first (arg
   module _ (none : k ≡ 0) where
     decided : unless (first by-table) T (accepted h T c) ≡ step h T c
     unfolding step by-table
-    decided = ap (λ (n : ℕ). unless n T (accepted h T c)) (sym (first-after-none (arguments h T c) by-table (arguments-numbered h T c) (sym asked ∙ none)))
+    decided =
+        ap (λ (n : ℕ). unless n T (accepted h T c))
+        (sym (first-after-none (arguments h T c) by-table (arguments-numbered h T c) (sym asked ∙ none)))
 
     height-checked : h ≤ 12
-    height-checked = ltb-false 12 h (not-applied 1 (ltb 12 h) (check 2 (not (eqb (length T) 4096)) ∷ validity h c) (omega arith) (sym asked ∙ none))
+    height-checked = height-passed h (check 2 (not (eqb (length T) 4096)) ∷ validity h c) (sym asked ∙ none)
 
     length-checked : first (check 2 (not (eqb (length T) 4096)) ∷ validity h c) ≡ 0
     length-checked = rest-zero 1 (ltb 12 h) (check 2 (not (eqb (length T) 4096)) ∷ validity h c) (omega arith) (sym asked ∙ none)
@@ -53,7 +56,7 @@ module _ (h : ℕ) (T : List ℕ) (c : Call) (k : ℕ) (asked : k ≡ first (arg
     pub ready : Ready h T (tenantOf c)
     ready = record {
       height = height-checked;
-      entries = eqb-true (length T) 4096 (not-false (eqb (length T) 4096) (not-applied 2 (not (eqb (length T) 4096)) (validity h c) (omega arith) length-checked));
+      entries = length-passed T (validity h c) length-checked;
       tenant = valid-tenant h c valid;
     }
 
@@ -69,7 +72,8 @@ module _ (h : ℕ) (T : List ℕ) (c : Call) (k : ℕ) (asked : k ≡ first (arg
     unfolding changeOn grantOn releaseOn by-table
     call-changes = go c valid ∙ decided
       where
-        go : (c : Call) → first (validity h c) ≡ 0 → changeOn h T (tenantOf c) (wantedBy c) ≡ unless (first (check 7 (not (in-order? h T)) ∷ holdings h T c)) T (accepted h T c)
+        go : (c : Call) → first (validity h c) ≡ 0
+            → changeOn h T (tenantOf c) (wantedBy c) ≡ unless (first (check 7 (not (in-order? h T)) ∷ holdings h T c)) T (accepted h T c)
         go (grant-level t l m) v =
             let low = valid-level h (grant-level t l m) l by-level v in
             rw (ne-eqb l no-level (λ e. omega (arith, low, height-checked)))

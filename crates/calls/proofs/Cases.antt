@@ -12,9 +12,11 @@ use Rattle.layout.specs.Set.{layoutSet}
 use Rattle.layout.specs.Change.{oneMore, oneFewer}
 use Rattle.table.specs.Table.{nodeAt, countsOf}
 use Rattle.calls.specs.Call.{Call, grant-level, grant-pages, release, tenantOf, levelFor}
-use Rattle.calls.specs.Step.{Outcome, refused, Check, check, first, validity, grant-holdings, holdings, checks, granted, released, accepted, unless, step}
+use Rattle.calls.specs.Step.{refused, Check, check, first, validity, grant-holdings, holdings, checks}
+use Rattle.calls.specs.Step.{granted, released, accepted, unless, step}
 use Rattle.calls.specs.Demand.{Asks, by-level, by-pages, Releases, releases}
 use Rattle.calls.proofs.Checks.{Sound, first-of-sound, Numbered, validity-numbered, not-applied, rest-zero, valid-tenant, valid-level}
+use Rattle.calls.proofs.Given.{above-zero}
 
 pub record Granted (h : ℕ) (T : List ℕ) (c : Call) (l : ℕ) : Type 0 where
   pub asks : Asks c l
@@ -45,13 +47,17 @@ both-zero (c ∷ xs) ys n e = go (c .applies) e (both-zero xs ys (n .1))
     go false z rest = rest z
 
 module _ (h : ℕ) (T : List ℕ) (s : Sound h T) where
+  abbrev room-check : ℕ → Check
+  room-check l = check 10 (ltb (2 ^ h) (pages (countsOf h T) + 2 ^ l))
+
   -- what checks 8 and 10 have shown
   holds-nothing : (t l : ℕ) → first (grant-holdings h T t l) ≡ 0 → nodeAt T t ≡ 0
-  holds-nothing t l e = omega (arith, ltb-false 0 (nodeAt T t) (not-applied 8 (ltb 0 (nodeAt T t)) (check 10 (ltb (2 ^ h) (pages (countsOf h T) + 2 ^ l)) ∷ []) (omega arith) e))
+  holds-nothing t l e =
+      omega (arith, ltb-false 0 (nodeAt T t) (not-applied 8 (ltb 0 (nodeAt T t)) (room-check l ∷ []) (omega arith) e))
 
   pages-fit : (t l : ℕ) → first (grant-holdings h T t l) ≡ 0 → pages (countsOf h T) + 2 ^ l ≤ 2 ^ h
   pages-fit t l e =
-      let r = rest-zero 8 (ltb 0 (nodeAt T t)) (check 10 (ltb (2 ^ h) (pages (countsOf h T) + 2 ^ l)) ∷ []) (omega arith) e in
+      let r = rest-zero 8 (ltb 0 (nodeAt T t)) (room-check l ∷ []) (omega arith) e in
       ltb-false (2 ^ h) (pages (countsOf h T) + 2 ^ l) (not-applied 10 (ltb (2 ^ h) (pages (countsOf h T) + 2 ^ l)) [] (omega arith) r)
 
   grant-case : (c : Call) (l : ℕ) → Asks c l → first (validity h c) ≡ 0 → first (grant-holdings h T (tenantOf c) l) ≡ 0
@@ -73,12 +79,9 @@ module _ (h : ℕ) (T : List ℕ) (s : Sound h T) where
       by-release (record {
         asks = releases;
         tenant = valid-tenant h (release t m) v;
-        holds = positive (nodeAt T t) (eqb-false (nodeAt T t) 0 (not-applied 9 (eqb (nodeAt T t) 0) [] (omega arith) e));
+        holds = above-zero (nodeAt T t) (eqb-false (nodeAt T t) 0 (not-applied 9 (eqb (nodeAt T t) 0) [] (omega arith) e));
         outcome = o;
       })
-    where
-      positive : (n : ℕ) → ¬ (n ≡ 0) → 0 < n
-      positive n ne = omega arith
 
   pub case : (c : Call) → Case h T c
   unfolding step

@@ -1,11 +1,11 @@
 -- Which number a call answers on a table in order.
 use mathlib.Core.Path.{_≡_, refl, _∙_}
-use mathlib.Core.Bool.{Bool, true, false, cond}
+use mathlib.Core.Bool.{Bool, true, false, not, cond}
 use mathlib.Core.List.{List, [], _∷_, _++_}
 use Prim.Native.Nat.{ℕ, zero, suc, _^_, _≤_, _<_}
 use native.Mathlib.Omega.{arith}
-use borrow.Author.Tests.{ltb-false, eq-eqb, le-ltb}
-use lib.Dec.{ltb}
+use borrow.Author.Tests.{ltb-false, eqb-true, eq-eqb, le-ltb, not-false}
+use lib.Dec.{eqb, ltb}
 use lib.ListN.{length}
 use Rattle.table.specs.Table.{in-order?}
 use Rattle.calls.specs.Call.{Call, grant-level, grant-pages, release, tenantOf}
@@ -36,7 +36,8 @@ pub first-after-none : (xs ys : List Check) → Numbered xs → first xs ≡ 0 �
 first-after-none [] ys n e = refl
 first-after-none (c ∷ xs) ys n e = go (c .applies) e (first-after-none xs ys (n .1))
   where
-    go : (b : Bool) → cond b (c .number) (first xs) ≡ 0 → (first xs ≡ 0 → first (xs ++ ys) ≡ first ys) → cond b (c .number) (first (xs ++ ys)) ≡ first ys
+    go : (b : Bool) → cond b (c .number) (first xs) ≡ 0 → (first xs ≡ 0 → first (xs ++ ys) ≡ first ys)
+        → cond b (c .number) (first (xs ++ ys)) ≡ first ys
     go true z rest = absurd (omega (arith, n .0))
     go false z rest = rest z
 
@@ -81,6 +82,13 @@ pub rest-zero : (n : ℕ) (b : Bool) (cs : List Check) → 0 < n → first (chec
 rest-zero n true cs p e = absurd (omega arith)
 rest-zero n false cs p e = e
 
+pub height-passed : (h : ℕ) (cs : List Check) → first (check 1 (ltb 12 h) ∷ cs) ≡ 0 → h ≤ 12
+height-passed h cs e = ltb-false 12 h (not-applied 1 (ltb 12 h) cs (omega arith) e)
+
+pub length-passed : (T : List ℕ) (cs : List Check) → first (check 2 (not (eqb (length T) 4096)) ∷ cs) ≡ 0 → length T ≡ 4096
+length-passed T cs e =
+    eqb-true (length T) 4096 (not-false (eqb (length T) 4096) (not-applied 2 (not (eqb (length T) 4096)) cs (omega arith) e))
+
 tenant-below : (t m : ℕ) (cs : List Check) → first (check 3 (ltb m 4) ∷ check 4 (ltb 4095 t) ∷ cs) ≡ 0 → t < 4096
 tenant-below t m cs e =
     let r = rest-zero 3 (ltb m 4) (check 4 (ltb 4095 t) ∷ cs) (omega arith) e in
@@ -97,7 +105,8 @@ size-check t m c e =
     rest-zero 4 (ltb 4095 t) (c ∷ []) (omega arith) r
 
 pub valid-level : (h : ℕ) (c : Call) (l : ℕ) → Asks c l → first (validity h c) ≡ 0 → l ≤ h
-valid-level h c l (by-level {t = t} {l = k} {m = m}) v = ltb-false h k (not-applied 5 (ltb h k) [] (omega arith) (size-check t m (check 5 (ltb h k)) v))
+valid-level h c l (by-level {t = t} {l = k} {m = m}) v =
+    ltb-false h k (not-applied 5 (ltb h k) [] (omega arith) (size-check t m (check 5 (ltb h k)) v))
 valid-level h c l (by-pages {t = t} {p = p} {m = m}) v =
     level-for-le p h (ltb-false (2 ^ h) p (not-applied 6 (ltb (2 ^ h) p) [] (omega arith) (size-check t m (check 6 (ltb (2 ^ h) p)) v)))
 

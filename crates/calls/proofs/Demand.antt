@@ -3,20 +3,19 @@ use mathlib.Core.Path.{_≡_, refl, sym, ap, _∙_}
 use mathlib.Core.List.{List, [], _∷_}
 use mathlib.Core.Logic.{_⊎_, inl, inr, _↔_}
 use mathlib.Core.Option.{none}
-use mathlib.Core.Bool.{Bool, true, false, not}
-use Prim.Native.Nat.{ℕ, zero, suc, _+_, _≤_, _<_}
+use mathlib.Core.Bool.{not}
+use Prim.Native.Nat.{ℕ, zero, suc, _+_, _≤_}
 use native.Mathlib.Omega.{arith}
-use borrow.Author.Tests.{ltb-false}
-use lib.Dec.{eqb, ltb}
+use lib.Dec.{eqb}
 use lib.ListN.{length, replicate, length-replicate}
 use Rattle.tree.specs.Held.{one-if}
-use Rattle.table.specs.Table.{nodeAt, occupied}
-use Rattle.table.proofs.Order.{empty-in-order}
+use Rattle.table.specs.Table.{occupied}
+use Rattle.table.proofs.Order.{empty-at, empty-in-order}
 use Rattle.calls.specs.Call.{Call, tenantOf}
-use Rattle.calls.specs.Step.{Outcome, first, reserve-checks, check, unless, refused, step, open-reserve}
+use Rattle.calls.specs.Step.{Outcome, first, reserve-checks, check, unless, step, open-reserve}
 use Rattle.calls.specs.History.{History, tableFrom, answersFrom, tableAfter, Book, enter, bookFrom, bookAfter, held}
-use Rattle.calls.specs.Demand.{Valid, Asks, Box, SameFate, no-room, room, Boxes, Demand3, NoPlacement}
-use Rattle.calls.proofs.Checks.{not-applied}
+use Rattle.calls.specs.Demand.{Valid, Asks, Box, SameFate, no-room, room, Demand3, NoPlacement}
+use Rattle.calls.proofs.Checks.{height-passed}
 use Rattle.calls.proofs.Kept.{Kept}
 use Rattle.calls.proofs.Box.{box, kept-by-call}
 
@@ -39,7 +38,7 @@ opened h T e = go (first (reserve-checks h T)) refl
 
     go : (n : ℕ) → first (reserve-checks h T) ≡ n → Opened h T
     go zero p = record {
-      height = ltb-false 12 h (not-applied 1 (ltb 12 h) (check 2 (not (eqb (length T) 4096)) ∷ []) (omega arith) p);
+      height = height-passed h (check 2 (not (eqb (length T) 4096)) ∷ []) p;
       table = ap (λ (n : ℕ). unless n T done .table) p;
     }
     go (suc n) p = absurd (omega (arith, e, ap (λ (m : ℕ). unless m T done .answer) p))
@@ -49,13 +48,8 @@ kept-at-opening h n q e = record {
   height = q;
   entries = length-replicate n 0 ∙ e;
   in-order = empty-in-order h n;
-  agrees = λ t. nothing-anywhere n t;
+  agrees = empty-at n;
 }
-  where
-    nothing-anywhere : (n t : ℕ) → nodeAt (replicate n 0) t ≡ 0
-    nothing-anywhere zero t = refl
-    nothing-anywhere (suc n) zero = refl
-    nothing-anywhere (suc n) (suc t) = nothing-anywhere n t
 
 -- every history keeps its table in order and its book in agreement
 pub kept-by-history : (h : ℕ) (H : History h) → Kept h (tableAfter h H) (bookAfter h H)

@@ -1,4 +1,5 @@
--- An answer 0 shows that the arguments were as they should be: the table has 4,096 entries, and the move list at least four. So every move goes into the list.
+-- An answer 0 shows that the arguments were as they should be: the table has 4,096 entries, and the move list at least four. So every move
+-- goes into the list.
 use mathlib.Core.Path.{_≡_, refl, sym}
 use mathlib.Core.Bool.{not}
 use mathlib.Core.List.{List, [], _∷_}
@@ -61,6 +62,7 @@ module _ (h : ℕ) (T : List ℕ) (c : Call) where
   unfolding step
   moves-within = go (first (checks h T c)) (passed-entries h T c)
     where
-      go : (k : ℕ) → (k ≡ 0 → 4 ≤ entriesOf c) → length (unless k T (accepted h T c) .moves) ≤ 4 → length (unless k T (accepted h T c) .moves) ≤ entriesOf c
+      go : (k : ℕ) → (k ≡ 0 → 4 ≤ entriesOf c) → length (unless k T (accepted h T c) .moves) ≤ 4
+          → length (unless k T (accepted h T c) .moves) ≤ entriesOf c
       go zero enough few = omega (arith, enough refl)
       go (suc k) enough few = zero-le

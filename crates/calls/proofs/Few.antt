@@ -1,24 +1,16 @@
 -- Every call, on every table, has at most four moves.
-use mathlib.Core.Path.{_≡_, refl, ap}
-use mathlib.Core.List.{List, []}
-use Prim.Native.Nat.{ℕ, zero, suc, _≤_, zero-le}
+use mathlib.Core.Path.{_≡_}
+use mathlib.Core.List.{List}
+use Prim.Native.Nat.{ℕ, _≤_, zero-le}
 use native.Mathlib.Decide.{ℕ-discrete}
 use lib.ListN.{length}
 use Rattle.table.proofs.Order.{in-order-iff}
 use Rattle.calls.specs.Call.{Call, tenantOf}
-use Rattle.calls.specs.Step.{Outcome, first, checks, accepted, unless, step}
+use Rattle.calls.specs.Step.{step}
 use Rattle.calls.proofs.Accepted.{sound-if-accepted}
 use Rattle.calls.proofs.Cases.{Case, by-grant, by-release, by-refusal, case}
 use Rattle.calls.proofs.Changed.{grant-few, release-few}
-use Rattle.calls.proofs.Given.{accepted-answer}
-
-unless-moves : (k : ℕ) (T : List ℕ) (o : Outcome) → o .answer ≡ 0 → ¬ (unless k T o .answer ≡ 0) → unless k T o .moves ≡ []
-unless-moves zero T o e ne = absurd (ne e)
-unless-moves (suc k) T o e ne = refl
-
-refused-moves : (h : ℕ) (T : List ℕ) (c : Call) → ¬ (step h T c .answer ≡ 0) → step h T c .moves ≡ []
-unfolding step
-refused-moves h T c = unless-moves (first (checks h T c)) T (accepted h T c) (accepted-answer h T c)
+use Rattle.calls.proofs.Given.{step-refuses}
 
 pub moves-at-most-4 : (h : ℕ) (T : List ℕ) (c : Call) → length (step h T c .moves) ≤ 4
 moves-at-most-4 h T c = go (ℕ-discrete (step h T c .answer) 0)
@@ -36,4 +28,4 @@ moves-at-most-4 h T c = go (ℕ-discrete (step h T c .answer) 0)
 
     go : Dec (step h T c .answer ≡ 0) → length (step h T c .moves) ≤ 4
     go (yes e) = done e (case h T (sound-if-accepted h T c e) c)
-    go (no ne) = rw (refused-moves h T c ne) zero-le
+    go (no ne) = rw (step-refuses h T c ne) zero-le

@@ -45,19 +45,22 @@ value-given {o} {r} {T} none g = λ i. record { answer = number i; node = node i
     moves : valueOf r T .moves ≡ o .moves
     moves = moves-in-plan-of (r .plan) (o .moves) (g .plan)
 
--- a refusal names no node
-unless-node : (k : ℕ) (T : List ℕ) (o : Outcome) → o .answer ≡ 0 → ¬ (unless k T o .answer ≡ 0) → unless k T o .node ≡ 0
-unless-node zero T o e ne = absurd (ne e)
-unless-node (suc k) T o e ne = refl
+-- a refusal names no node, has no moves and leaves the table
+pub unless-refuses : (k : ℕ) (T : List ℕ) (o : Outcome) → o .answer ≡ 0 → ¬ (unless k T o .answer ≡ 0) → unless k T o ≡ refused k T
+unless-refuses zero T o e ne = absurd (ne e)
+unless-refuses (suc k) T o e ne = refl
 
-pub accepted-answer : (h : ℕ) (T : List ℕ) (c : Call) → accepted h T c .answer ≡ 0
+accepted-answer : (h : ℕ) (T : List ℕ) (c : Call) → accepted h T c .answer ≡ 0
 accepted-answer h T (grant-level t l m) = refl
 accepted-answer h T (grant-pages t p m) = refl
 accepted-answer h T (release t m) = refl
 
-pub value-of-step : (h : ℕ) (T : List ℕ) (c : Call) {r : Called} {T′ : List ℕ} → Gives (step h T c) r T′ → valueOf r T′ ≡ step h T c
+pub step-refuses : (h : ℕ) (T : List ℕ) (c : Call) → ¬ (step h T c .answer ≡ 0) → step h T c ≡ refused (first (checks h T c)) T
 unfolding step
-value-of-step h T c = value-given (unless-node (first (checks h T c)) T (accepted h T c) (accepted-answer h T c))
+step-refuses h T c = unless-refuses (first (checks h T c)) T (accepted h T c) (accepted-answer h T c)
+
+pub value-of-step : (h : ℕ) (T : List ℕ) (c : Call) {r : Called} {T′ : List ℕ} → Gives (step h T c) r T′ → valueOf r T′ ≡ step h T c
+value-of-step h T c = value-given (λ ne. ap (λ (o : Outcome). o .node) (step-refuses h T c ne))
 
 -- ---- an opening names no node at all
 

@@ -1,15 +1,13 @@
 -- An accepted grant keeps the table in order and the book in agreement with it.
 use mathlib.Core.Path.{_≡_, refl, sym, ap, _∙_}
-use mathlib.Core.Bool.{Bool, true, false}
 use mathlib.Core.List.{List}
 use mathlib.Core.Option.{Option, some, none}
-use Prim.Native.Nat.{ℕ, suc, _+_, _^_, _≤_, _<_}
+use Prim.Native.Nat.{ℕ, _+_, _^_, _≤_, _<_}
 use native.Mathlib.Omega.{arith}
 use native.Mathlib.Decide.{ℕ-discrete}
 use borrow.Author.Tests.{eq-eqb, ne-eqb}
 use lib.Dec.{eqb}
-use lib.ListN.{length, getD, set, length-set}
-use Rattle.tree.specs.Node.{InTree, level}
+use lib.ListN.{length, length-set}
 use Rattle.tree.specs.Held.{Nodes, one-if, sizes}
 use Rattle.layout.specs.Layout.{pages}
 use Rattle.layout.specs.Set.{layoutSet}
@@ -26,7 +24,8 @@ use Rattle.calls.proofs.Room.{pages-one-more, count-one-more}
 use Rattle.calls.proofs.Kept.{Kept, level-in-counts}
 
 -- a tenant that has moved within its level agrees with the book as before
-pub agrees-moved : (h : ℕ) (N : Nodes) (T : List ℕ) → Movable h N T → (u : ℕ) (e : Option ℕ) → Agrees h e (nodeAt T u) → Agrees h e (nodeAt (moved h N T) u)
+pub agrees-moved : (h : ℕ) (N : Nodes) (T : List ℕ) → Movable h N T → (u : ℕ) (e : Option ℕ)
+    → Agrees h e (nodeAt T u) → Agrees h e (nodeAt (moved h N T) u)
 agrees-moved h N T M u none a = moved-nothing M u a
 agrees-moved h N T M u (some k) a =
     (M .within (nodeAt (moved h N T) u) (moved-in-new M u (a .0 .above-zero)), moved-level M u (a .0 .above-zero) ∙ a .1)

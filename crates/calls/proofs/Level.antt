@@ -1,5 +1,5 @@
 -- The level that a number of pages asks for is the smallest whose block has that many.
-use mathlib.Core.Path.{_≡_, refl, sym, ap, _∙_}
+use mathlib.Core.Path.{_≡_, refl}
 use mathlib.Core.Bool.{Bool, true, false, cond}
 use Prim.Native.Nat.{ℕ, zero, suc, _+_, _-_, _^_, _≤_, _<_}
 use native.Mathlib.Nat.{add-zero, add-suc, suc-add, zero-add, pow-suc, le-antisymm}
@@ -22,7 +22,8 @@ least-from : (l n p : ℕ) → p ≤ 2 ^ (l + n) → ((m : ℕ) → p ≤ 2 ^ m 
 least-from l zero p q s = record { enough = rw (add-zero l) at q; smallest = s }
 least-from l (suc n) p q s = go (leb p (2 ^ l)) refl (λ s′. least-from (suc l) n p (rw (add-suc, ← suc-add) at q) s′)
   where
-    go : (b : Bool) → leb p (2 ^ l) ≡ b → (((m : ℕ) → p ≤ 2 ^ m → suc l ≤ m) → Least p (leastFrom (suc l) n p)) → Least p (cond b l (leastFrom (suc l) n p))
+    go : (b : Bool) → leb p (2 ^ l) ≡ b → (((m : ℕ) → p ≤ 2 ^ m → suc l ≤ m) → Least p (leastFrom (suc l) n p))
+        → Least p (cond b l (leastFrom (suc l) n p))
     go true e up = record { enough = leb-true p (2 ^ l) e; smallest = s }
     go false e up = up above
       where

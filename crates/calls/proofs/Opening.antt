@@ -1,14 +1,13 @@
 -- The two ways that an opening can go.
-use mathlib.Core.Path.{_≡_, refl, sym, ap, _∙_}
+use mathlib.Core.Path.{_≡_, refl, sym, _∙_}
 use mathlib.Core.Bool.{not}
 use mathlib.Core.List.{List, [], _∷_}
 use Prim.Native.Nat.{ℕ, zero, suc}
 use native.Mathlib.Omega.{arith}
-use borrow.Author.Tests.{eqb-true, not-false}
 use lib.Dec.{eqb, ltb}
 use lib.ListN.{length, replicate}
 use Rattle.calls.specs.Step.{Outcome, refused, check, first, reserve-checks, unless, open-reserve}
-use Rattle.calls.proofs.Checks.{not-applied, rest-zero}
+use Rattle.calls.proofs.Checks.{rest-zero, length-passed}
 
 abbrev pub opened-table : ℕ → Outcome
 opened-table n = record { answer = 0; node = 0; moves = []; table = replicate n 0 }
@@ -30,5 +29,4 @@ opening-done h T k e z = rw (← e, z)
 pub table-length : (h : ℕ) (T : List ℕ) (k : ℕ) → k ≡ first (reserve-checks h T) → k ≡ 0 → length T ≡ 4096
 table-length h T k e z =
     let on = check 2 (not (eqb (length T) 4096)) ∷ [] in
-    let r = rest-zero 1 (ltb 12 h) on (omega arith) (sym e ∙ z) in
-    eqb-true (length T) 4096 (not-false (eqb (length T) 4096) (not-applied 2 (not (eqb (length T) 4096)) [] (omega arith) r))
+    length-passed T [] (rest-zero 1 (ltb 12 h) on (omega arith) (sym e ∙ z))

@@ -1,15 +1,13 @@
 -- An accepted release keeps the table in order and the book in agreement with it.
 use mathlib.Core.Path.{_≡_, refl, sym, ap, _∙_}
-use mathlib.Core.Bool.{Bool, true, false}
 use mathlib.Core.List.{List}
-use mathlib.Core.Option.{Option, some, none}
-use Prim.Native.Nat.{ℕ, suc, _+_, _^_, _≤_, _<_}
+use mathlib.Core.Option.{none}
+use Prim.Native.Nat.{ℕ, _^_, _≤_, _<_}
 use native.Mathlib.Nat.{le-of-eq}
 use native.Mathlib.Omega.{arith}
 use native.Mathlib.Decide.{ℕ-discrete}
 use borrow.Author.Tests.{eq-eqb, ne-eqb}
-use lib.Dec.{eqb}
-use lib.ListN.{length, getD, set, length-set}
+use lib.ListN.{length, set, length-set}
 use Rattle.tree.specs.Node.{level}
 use Rattle.tree.specs.Held.{Nodes, sizes}
 use Rattle.layout.specs.Layout.{pages}
@@ -18,14 +16,15 @@ use Rattle.layout.specs.Change.{oneMore, oneFewer}
 use Rattle.layout.proofs.Theorems.{layout-in-tree, layout-has-counts}
 use Rattle.table.specs.Table.{nodeAt, occupied, countsOf, InOrder}
 use Rattle.table.specs.Pairing.{moved}
-use Rattle.table.proofs.Order.{counts-length, in-order-fits, in-order-of-layout}
+use Rattle.table.proofs.Order.{in-order-fits, in-order-of-layout}
 use Rattle.table.proofs.Moved.{Movable, moved-length, moved-once, moved-occupies}
 use Rattle.calls.specs.History.{Book, write}
 use Rattle.calls.specs.Demand.{Agrees}
 use Rattle.calls.proofs.Room.{pages-one-more}
 use Rattle.calls.proofs.Kept.{Kept}
 use Rattle.calls.proofs.Granting.{agrees-moved}
-use Rattle.calls.proofs.Struck.{one-more-one-fewer, node-after-set, node-beside-set, struck-in-tree, struck-once, level-in-counts, holder-counted, struck-sizes}
+use Rattle.calls.proofs.Struck.{one-more-one-fewer, node-after-set, node-beside-set, struck-in-tree, struck-once}
+use Rattle.calls.proofs.Struck.{level-in-counts, holder-counted, struck-sizes}
 
 module _ (h : ℕ) (T : List ℕ) (B : Book) (K : Kept h T B) (t : ℕ) (t<4096 : t < 4096) (holds : 0 < nodeAt T t) where
   t-in-table : t < length T

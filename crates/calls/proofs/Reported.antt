@@ -1,8 +1,9 @@
--- A call reports as many moves as tenants other than its own have a node before and a different one after: at most three on a grant, four on a release.
-use mathlib.Core.Path.{_≡_, refl, sym, ap, ap₂, _∙_, fun-ext}
+-- A call reports as many moves as tenants other than its own have a node before and a different one after: at most three on a grant, four on
+-- a release.
+use mathlib.Core.Path.{_≡_, refl, sym, ap, _∙_, fun-ext}
 use mathlib.Core.Bool.{Bool, true, false, not, _&&_, false≢true}
-use mathlib.Core.List.{List, []}
-use Prim.Native.Nat.{ℕ, zero, suc, _+_, _^_, _≤_, _<_}
+use mathlib.Core.List.{List}
+use Prim.Native.Nat.{ℕ, suc, _^_, _≤_, _<_}
 use native.Mathlib.Omega.{arith}
 use native.Mathlib.Decide.{ℕ-discrete}
 use native.Mathlib.Nat.{eq-zero-or-pos}
@@ -10,7 +11,7 @@ use mathlib.Core.Logic.{_⊎_, inl, inr}
 use borrow.Author.Tests.{eq-eqb, ne-eqb, lt-ltb}
 use lib.Dec.{eqb, ltb}
 use lib.ListN.{length, set, length-set}
-use Rattle.tree.specs.Held.{Nodes, count}
+use Rattle.tree.specs.Held.{Nodes}
 use Rattle.tree.proofs.Sum.{count-of-none}
 use Rattle.tree.proofs.Count.{passes-first, fails-second, passes-only-first}
 use Rattle.layout.specs.Set.{layoutSet}

@@ -31,8 +31,8 @@ fn has_room(height: u16, counts: Counts, level: u16) -> bool
     held + more <= all
 }
 
-// Grants the tenant a block of the level wanted, or gives its block up where no level is wanted, unless the table refuses it. Both go through this one
-// function, so that the owners stand on the stack once.
+// Grants the tenant a block of the level wanted, or gives its block up where no level is wanted, unless the table refuses it. Both go through
+// this one function, so that the owners stand on the stack once.
 pub fn change(height: u16, table: &mut [u16], tenant: u16, wanted: u16) -> Called
     requires ready { ⌜ Ready height (now table) tenant ⌝ }
     requires level { ⌜ (¬ (wanted ≡ no-level) → wanted ≤ height) ⌝ }

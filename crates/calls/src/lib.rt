@@ -52,7 +52,7 @@ pub enum Call {
 
 impl Call {
     // The tenant that the call is for.
-    pub fn tenant(self) -> u16
+    fn tenant(self) -> u16
         ensures { λ r. ⌜ r ≡ tenantOf (callOf self 0) ⌝ }
     {
         match self {

@@ -7,6 +7,7 @@ use native.Mathlib.Omega.{arith}
 use borrow.Author.Tests.{eq-eqb}
 use Rattle.tree.specs.Held.{one-if}
 use Rattle.tree.specs.Block.{Block}
+use Rattle.tree.proofs.Sum.{one-if-le-one}
 use Rattle.layout.specs.Layout.{among, same-block}
 use Rattle.layout.specs.Change.{missing}
 
@@ -37,10 +38,6 @@ backwards (hit e) = hit (backwards e)
 backwards (miss e) = more (backwards e)
 backwards (more e) = miss (backwards e)
 
-one-if-at-most : (t : Bool) → one-if t ≤ 1
-one-if-at-most true = omega arith
-one-if-at-most false = omega arith
-
 fewer-with-either : (s t : Bool) → one-if (not (s || t)) ≤ one-if (not t)
 fewer-with-either true t = zero-le
 fewer-with-either false t = omega arith
@@ -58,5 +55,5 @@ missing-at-most done = zero-le
 missing-at-most (hit {b} {xs} {ys} e) =
     rw (eq-eqb (b .level) (b .level) refl, eq-eqb (b .index) (b .index) refl)
     (omega (arith, missing-in-larger xs ys b, missing-at-most e))
-missing-at-most (miss {b} {xs} {ys} e) = omega (arith, one-if-at-most (not (among ys b)), missing-at-most e)
+missing-at-most (miss {b} {xs} {ys} e) = omega (arith, one-if-le-one (not (among ys b)), missing-at-most e)
 missing-at-most (more {b} {xs} {ys} e) = omega (arith, missing-in-larger xs ys b, missing-at-most e)

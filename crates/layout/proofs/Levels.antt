@@ -97,7 +97,8 @@ level-from : (l : ℕ) (s : State) (c : ℕ) (cs : List ℕ)
     → atLevel l (layoutFrom l s (c ∷ cs)) ≡ run l (start s) (running s c) ++ lone-after l (place l s c) cs
 level-from l s c cs =
     let t : State = place l s c in
-    rw (append-assoc, at-level-append, run-at-level l (start s) (running s c), at-level-append, lower-from l (suc l) (rise t) cs (omega arith), lone-rise l t cs)
+    let above = lower-from l (suc l) (rise t) cs (omega arith) in
+    rw (append-assoc, at-level-append, run-at-level l (start s) (running s c), at-level-append, above, lone-rise l t cs)
 
 -- of a higher level, nothing comes from this one
 higher-from : (m l : ℕ) {s : State} (c : ℕ) (cs : List ℕ) → l < m → Below l s

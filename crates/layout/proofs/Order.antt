@@ -4,15 +4,12 @@ use mathlib.Core.List.{List, [], _∷_, _++_, append-assoc}
 use Prim.Native.Nat.{ℕ, zero, suc, _+_, _*_, _^_, _≤_, _<_}
 use native.Mathlib.Nat.{le-trans, le-refl, le-of-eq, add-zero, mul-le-mul-right}
 use native.Mathlib.Omega.{arith}
-use lib.Pow.{pow-pos}
 use Rattle.tree.specs.Block.{Block, first, past, Meet, BLegal}
+use Rattle.tree.proofs.Align.{first<past}
 use Rattle.layout.specs.Layout.{State, start, running, place, rise, run, layoutFrom, layout, among}
 use Rattle.layout.proofs.Members.{Member, here, later, among-member, same-first, same-past}
 use Rattle.layout.proofs.States.{AtLevel, full-at, lone-at, lone-pages, place-at, start-place}
 use Rattle.layout.proofs.States.{double-pages, Rises, full-rises, lone-rises, lone-settles, rises, next-at}
-
-pub first-below-past : (b : Block) → first b < past b
-first-below-past b = let z = pow-pos (b .level) in omega arith
 
 -- the blocks follow one another from page p on
 pub data Chain : ℕ → List Block → Type 0 where
@@ -51,7 +48,7 @@ layout-chain cs = layoutFrom-chain 0 cs (full-at {u = 0})
 
 pub chain-first : {p : ℕ} {bs : List Block} {b : Block} → Chain p bs → Member b bs → p ≤ first b
 chain-first (cons q c) (here e) = let f = same-first e in omega arith
-chain-first (cons {b = x} q c) (later m) = let r = chain-first c m in let z = first-below-past x in omega arith
+chain-first (cons {b = x} q c) (later m) = let r = chain-first c m in let z = first<past x in omega arith
 
 -- of two blocks of a chain one ends before the other begins, or they are the same
 pub chain-meet : {p : ℕ} {bs : List Block} {a b : Block} → Chain p bs → Member a bs → Member b bs → Meet a b → a ≡ b

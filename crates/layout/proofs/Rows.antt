@@ -13,11 +13,13 @@ use lib.ListN.{length, getD, length-append, List·getD-append}
 use lib.Seq.{getD-at}
 use lib.Pow.{pow-pos}
 use Rattle.tree.specs.Block.{Block, blockOf}
+use Rattle.tree.proofs.Count.{equal-of-both-ways}
 use Rattle.tree.proofs.Sets.{both-left, both-right}
 use Rattle.layout.specs.Layout.{block, run, layout, same-block, among, pages}
 use Rattle.layout.specs.Runs.{starts, runs}
 use Rattle.layout.specs.Set.{layoutSet}
-use Rattle.layout.specs.Rows.{no-index, lones, rowsOf, startAt, runAt, loneAt, inRow, rowsHold, holdsNode, kthIndex, indexAt, upFrom, rowIndices, atLevel}
+use Rattle.layout.specs.Rows.{no-index, lones, rowsOf, startAt, runAt, loneAt, inRow, rowsHold}
+use Rattle.layout.specs.Rows.{holdsNode, kthIndex, indexAt, upFrom, rowIndices, atLevel}
 use Rattle.layout.proofs.Members.{Member, here, later, among-member, member-among, run-holds, holds-run}
 use Rattle.layout.proofs.Within.{layout-within}
 use Rattle.layout.proofs.Levels.{Row, run-only, run-and-lone, row-of-layout}
@@ -40,13 +42,8 @@ among-at-level m i (b ∷ bs) = go (eqb (b .level) m) refl (among-at-level m i b
     go true e ih = rw (e, ih)
     go false e ih = ih
 
-same-truth : (p q : Bool) → (p ≡ true → q ≡ true) → (q ≡ true → p ≡ true) → p ≡ q
-same-truth true q f g = sym (f refl)
-same-truth false true f g = g refl
-same-truth false false f g = refl
-
 among-run : (m s n i : ℕ) → among (run m s n) (block m i) ≡ (leb s i && ltb i (s + n))
-among-run m s n i = same-truth (among (run m s n) (block m i)) (leb s i && ltb i (s + n))
+among-run m s n i = equal-of-both-ways (among (run m s n) (block m i)) (leb s i && ltb i (s + n))
     (λ t. let r = run-holds m s n (among-member (run m s n) (block m i) t) in ap₂ _&&_ (le-leb s i (r .from)) (lt-ltb i (s + n) (r .to)))
     (λ t. member-among (holds-run m s n i
     (leb-true s i (both-left (leb s i) (ltb i (s + n)) t))

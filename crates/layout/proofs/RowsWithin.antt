@@ -49,5 +49,6 @@ module _ (h : ℕ) (cs : List ℕ) (fits : pages cs ≤ 2 ^ h) (l : ℕ) (in-hei
       in-tree : runAt (rowsOf cs) l < getD cs l 0 → loneAt (rowsOf cs) l < 2 ^ (h - l)
       in-tree last =
           let n : ℕ = runAt (rowsOf cs) l in
-          let held : among (layout cs) (block l (loneAt (rowsOf cs) l)) ≡ true = rw (le-ltb n n (omega arith), eq-eqb n n refl) at (kth-in-layout cs l n last) in
-          index-lt h (block l (loneAt (rowsOf cs) l)) (layout-within h cs fits (block l (loneAt (rowsOf cs) l)) held)
+          let lone : Block = block l (loneAt (rowsOf cs) l) in
+          let held : among (layout cs) lone ≡ true = rw (le-ltb n n (omega arith), eq-eqb n n refl) at (kth-in-layout cs l n last) in
+          index-lt h lone (layout-within h cs fits lone held)

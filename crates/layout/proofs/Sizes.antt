@@ -12,11 +12,12 @@ use lib.Pow.{pow-pos}
 use borrow.Author.Tests.{eq-eqb, ne-eqb}
 use Rattle.tree.specs.Held.{one-if, count}
 use Rattle.tree.specs.Block.{Block, past, bsizes}
+use Rattle.tree.proofs.Align.{first<past}
 use Rattle.layout.specs.Layout.{State, full, lone, block, start, running, place, rise, run, layoutFrom, layout}
 use Rattle.layout.specs.Layout.{same-block, among, pages}
 use Rattle.layout.proofs.Members.{Member, here, later, among-member, member-among, same-block-eq, same-level, same-index, same-first}
 use Rattle.layout.proofs.States.{Rises, full-rises, lone-rises, lone-settles, rises}
-use Rattle.layout.proofs.Order.{Chain, nil, cons, chain-first, first-below-past, layout-chain}
+use Rattle.layout.proofs.Order.{Chain, nil, cons, chain-first, layout-chain}
 use Rattle.layout.proofs.Within.{layout-within}
 
 -- The blocks of level m in the list
@@ -123,7 +124,7 @@ among-other b bs x h = ap (λ (p : Bool). p || among bs x) (false-unless-true (s
 -- In a chain no block stands twice: what follows b does not hold b.
 chain-once : (b : Block) (bs : List Block) (x : Block) → Chain (past b) bs → x ≡ b → among bs x ≡ false
 chain-once b bs x c e = false-unless-true (among bs x)
-    (λ t. let after = chain-first c (among-member bs x t) in omega (arith, same-first e, first-below-past b))
+    (λ t. let after = chain-first c (among-member bs x t) in omega (arith, same-first e, first<past b))
 
 -- So the places of level m that a chain holds are as many as its blocks of level m.
 module _ (n m : ℕ) (b : Block) (bs : List Block) where

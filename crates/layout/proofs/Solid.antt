@@ -6,10 +6,10 @@ use native.Mathlib.Nat.{le-refl, mul-le-mul-right, div-mul-le-self, lt-div-mul-a
 use native.Mathlib.Omega.{arith}
 use lib.Pow.{pow-pos, pow-lt}
 use Rattle.tree.specs.Block.{Block, Blocks, first, past, Inside, BLegal, BFree, BMeager}
+use Rattle.tree.proofs.Align.{first<past}
 use Rattle.layout.specs.Layout.{block}
 use Rattle.layout.proofs.Members.{same-first, same-past}
 use Rattle.layout.proofs.States.{lone-pages, double-pages}
-use Rattle.layout.proofs.Order.{first-below-past}
 
 -- a block of the set is the place or lies below it
 pub record Occupied (A : Blocks) (l x : ℕ) : Type 0 where
@@ -44,15 +44,15 @@ pub data Solid (A : Blocks) (l x : ℕ) : Type 0 where
 
 -- a solid place is not free
 pub solid-not-free : (A : Blocks) (u : Block) → Solid A (u .level) (u .index) → ¬ BFree A u
-solid-not-free A u (two-inside t) f = let pages = first-below-past (t .one) in f (t .one) (t .one-held) (omega arith)
-solid-not-free A u (covered c) f = let pages = first-below-past u in f (c .cover) (c .held) (omega arith)
+solid-not-free A u (two-inside t) f = let pages = first<past (t .one) in f (t .one) (t .one-held) (omega arith)
+solid-not-free A u (covered c) f = let pages = first<past u in f (c .cover) (c .held) (omega arith)
 
 -- and not meager: of two blocks below it neither is the only one, and below a held block there is none
 pub solid-not-meager : (A : Blocks) (x : Block) → BLegal A → Solid A (x .level) (x .index) → ¬ BMeager A x
 solid-not-meager A x legal (two-inside t) m =
     t .different (m .only (t .one) (t .one-held) (t .one-inside) ∙ sym (m .only (t .two) (t .two-held) (t .two-inside)))
 solid-not-meager A x legal (covered c) m =
-    let pages = first-below-past (m .one) in
+    let pages = first<past (m .one) in
     let same : c .cover ≡ m .one = legal (c .cover) (m .one) (c .held) (m .one-held) (omega arith) in
     let smaller : 2 ^ (m .one .level) < 2 ^ (x .level) = pow-lt (m .one-below .lower) in
     omega (arith, same-first same, same-past same)
@@ -103,8 +103,8 @@ halves l x = record { begins = double-pages x l refl; ends = double-pages (suc x
 pub halves-two : {A : Blocks} {l : ℕ} (x : ℕ) → Occupied A l (x + x) → Occupied A l (suc (x + x)) → TwoInside A (suc l) x
 halves-two {l = l} x p q =
     let at = halves l x in
-    let p-pages = first-below-past (p .occupant) in
-    let q-pages = first-below-past (q .occupant) in
+    let p-pages = first<past (p .occupant) in
+    let q-pages = first<past (q .occupant) in
     record {
       one = p .occupant;
       two = q .occupant;

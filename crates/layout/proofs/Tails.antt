@@ -5,12 +5,13 @@ use mathlib.Core.List.{List, [], _∷_, _++_, Memᴰ·append-right as member-app
 use Prim.Native.Nat.{ℕ, zero, suc, _≤_, _<_}
 use native.Mathlib.Omega.{arith}
 use Rattle.tree.specs.Block.{Block, first, past, BTail}
+use Rattle.tree.proofs.Align.{first<past}
 use Rattle.layout.specs.Layout.{State, full, lone, place, rise, layoutFrom, layout, among}
 use Rattle.layout.proofs.Members.{Member, here, later, among-member, same-level, same-first}
 use Rattle.layout.proofs.Members.{Part, in-run, in-settled, in-rest, member-part, added}
 use Rattle.layout.proofs.States.{AtLevel, full-at, lone-at, LoneOf, lone-of, settled-lone, remaining-lone, place-at, next-at}
 use Rattle.layout.proofs.States.{Rises, full-rises, lone-rises, lone-settles, rises}
-use Rattle.layout.proofs.Order.{Chain, cons, chain-first, first-below-past, layoutFrom-chain}
+use Rattle.layout.proofs.Order.{Chain, cons, chain-first, layoutFrom-chain}
 
 lone-unique : {s : State} {a b : Block} → LoneOf s a → LoneOf s b → a ≡ b
 lone-unique (lone-of p) (lone-of q) = p ∙ sym q
@@ -86,7 +87,7 @@ chain-right : (xs : List Block) {p : ℕ} {ys : List Block} {u t : Block}
 chain-right [] c mu mt h = mt
 chain-right (x ∷ xs) {u = u} (cons q c) mu (here e) h =
     let after : past x ≤ first u = chain-first c (member-append-right xs mu) in
-    absurd (omega (arith, same-first e, first-below-past x, first-below-past u))
+    absurd (omega (arith, same-first e, first<past x, first<past u))
 chain-right (x ∷ xs) (cons q c) mu (later mt) h = chain-right xs c mu mt h
 
 -- A block that level l adds is of level l or lower, so its tails are lower than l; a later one has its tails among the later ones.

@@ -18,7 +18,7 @@ use Rattle.layout.specs.Climb.{mark}
 use Rattle.layout.proofs.Bounds.{power-le-4096}
 use Rattle.layout.proofs.States.{start-place, running-le, double-pages, Rises, full-rises, lone-rises, lone-settles, rises}
 use Rattle.layout.proofs.Counting.{pages-from-level}
-use Rattle.layout.proofs.Writing.{written, written-lones}
+use Rattle.layout.proofs.Writing.{written, written-lones, length-mark}
 
 -- The room that the subtrees in use take: placing adds the level's pages, and going up at most one subtree of the lower level.
 
@@ -68,10 +68,6 @@ climbed-none {cs} e f is-empty =
 row-next : (ss : List ℕ) (l a : ℕ) (rest whole : List ℕ) → l < length ss → take l ss ++ (a ∷ rest) ≡ whole → take (suc l) (set ss l a) ++ rest ≡ whole
 row-next ss l a rest whole h e = rw (take-suc-set ss l a h, append-snoc) e
 
-mark-length : (s : State) (xs : List ℕ) → length (mark s xs) ≡ length xs
-mark-length (full u) xs = refl
-mark-length (lone v j k) xs = length-set xs j (v * 2 ^ k)
-
 -- A turn in state s: a and n are written at l, ys is the list of lone places with the level's blocks placed, and u the state one level up.
 pub climbed-next : {cs ss ns xs ys : List ℕ} {s t u : State} {l a n : ℕ} → length cs ≡ 13 → l < 13 → Climbed cs ss ns xs s l
     → start s ≡ a → n ≡ running s (getD cs l 0) → t ≡ place l s (getD cs l 0) → ys ≡ mark t xs → u ≡ rise t
@@ -87,9 +83,13 @@ climbed-next {cs} {ss} {ns} {xs} {ys} {s} {t} {u} {l} {a} {n} e h p is-start is-
       inside = h;
       starts-long = length-set ss l (start s) ∙ p .starts-long;
       runs-long = length-set ns l (running s c) ∙ p .runs-long;
-      lones-long = mark-length (place l s c) xs ∙ p .lones-long;
-      starts-so-far = row-next ss l (start s) (startsFrom (suc l) next above) (starts cs) (omega (arith, p .starts-long)) (rw d at (p .starts-so-far));
-      runs-so-far = row-next ns l (running s c) (runsFrom (suc l) next above) (runs cs) (omega (arith, p .runs-long)) (rw d at (p .runs-so-far));
+      lones-long = length-mark (place l s c) xs ∙ p .lones-long;
+      starts-so-far =
+          row-next ss l (start s) (startsFrom (suc l) next above) (starts cs) (omega (arith, p .starts-long))
+          (rw d at (p .starts-so-far));
+      runs-so-far =
+          row-next ns l (running s c) (runsFrom (suc l) next above) (runs cs) (omega (arith, p .runs-long))
+          (rw d at (p .runs-so-far));
       lones-so-far = rw d at (p .lones-so-far);
       room = omega (arith, p .room, pages-from-level cs l (omega arith), place-room l s c, rise-room l (rises (place l s c)));
     }

@@ -59,7 +59,7 @@ mark-append : {l : ℕ} {t : State} (xs ys : List ℕ) → Below l t → l ≤ l
 mark-append xs ys (full-below {u = u}) h = refl
 mark-append xs ys (lone-below {v = v} {j = j} {k = k} p) h = set-append-left xs ys j (v * 2 ^ k) (omega arith)
 
-length-mark : (t : State) (xs : List ℕ) → length (mark t xs) ≡ length xs
+pub length-mark : (t : State) (xs : List ℕ) → length (mark t xs) ≡ length xs
 length-mark (full u) xs = refl
 length-mark (lone v j k) xs = length-set xs j (v * 2 ^ k)
 

@@ -5,7 +5,7 @@ ghost use lib.ListN.{length, replicate};
 ghost use Rattle.layout.specs.Layout.{pages, running, place, rise};
 ghost use Rattle.layout.specs.Change.{oneFewer};
 ghost use Rattle.layout.specs.Counts.{more};
-ghost use Rattle.layout.specs.Rows.{rowsOf, inRow, holdsNode, kthIndex, kthNode, expectedNode};
+ghost use Rattle.layout.specs.Rows.{rowsOf, inRow, kthIndex, kthNode, expectedNode};
 ghost use Rattle.layout.specs.Climb.{stateOf, mark};
 
 // What stands for an index, or for a level of a lone block, where there is none.
@@ -135,30 +135,8 @@ impl Counts {
 }
 
 impl Layout {
-    // Whether the layout has the node of a tree of this height; no node is held at a height above 12, and nothing past the tree.
-    pub fn holds(self, height: u16, node: u16) -> bool
-        ensures { λ r. ⌜ r ≡ holdsNode self height node ⌝ }
-    {
-        if MAX_HEIGHT < height {
-            return false;
-        }
-        if node == 0 {
-            return false;
-        }
-        let depth = tree::depth(node);
-        if height < depth {
-            return false;
-        }
-        let l = (height - depth) as usize;
-        let i = node - power(depth);
-        let starts = self.start;
-        let runs = self.run;
-        let lones = self.lone;
-        in_row(starts[l], runs[l], lones[l], i)
-    }
-
     // The k-th node of the level, left to right; 0 where there is none or the height is above 12.
-    pub fn node(self, height: u16, level: u16, k: u16) -> u16
+    fn node(self, height: u16, level: u16, k: u16) -> u16
         ensures { λ r. ⌜ r ≡ kthNode self height level k ⌝ }
     {
         if MAX_HEIGHT < height {

@@ -61,7 +61,8 @@ module _ (d : ℕ → ℕ) (bits : (b : ℕ) → d b ≤ 1) where
       ]
 
 -- the highest of the bits below b, shifted into x
-pub shift-in : (d : ℕ → ℕ) (x b : ℕ) → 0 < b → (x * 2 + d (b - 1)) * 2 ^ (b - 1) + sum (b - 1) (λ i. d i * 2 ^ i) ≡ x * 2 ^ b + sum b (λ i. d i * 2 ^ i)
+pub shift-in : (d : ℕ → ℕ) (x b : ℕ) → 0 < b
+    → (x * 2 + d (b - 1)) * 2 ^ (b - 1) + sum (b - 1) (λ i. d i * 2 ^ i) ≡ x * 2 ^ b + sum b (λ i. d i * 2 ^ i)
 unfolding sum
 shift-in d x zero q = absurd (omega arith)
 shift-in d x (suc b) q = let below : suc b - 1 ≡ b = omega arith in rw (below, pow-suc 2 b) (omega arith)

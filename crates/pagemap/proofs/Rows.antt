@@ -83,8 +83,13 @@ module _ (h : ℕ) (T : List ℕ) (low : h ≤ 12) (o : InOrder h T) (p : ℕ) (
   unfolding covered
   rows-cover =
       equal-of-both-ways (coveredb 12 rows p) (coveredb h held p)
-      (λ e. let f = level-that-covers 12 rows p e in let q = sym (rows-over (f .0)) ∙ f .2 in covered-by-level h held p (f .0) (held-level (f .0) q) q)
-      (λ e. let f = level-that-covers h held p e in covered-by-level 12 rows p (f .0) (omega arith) (rows-over (f .0) ∙ f .2))
+      (λ e. by-row (level-that-covers 12 rows p e)) (λ e. by-held (level-that-covers h held p e))
+    where
+      by-row : (l : ℕ) × (l ≤ 12) × (rows (over p l) ≡ true) → coveredb h held p ≡ true
+      by-row (l, q, e) = let there = sym (rows-over l) ∙ e in covered-by-level h held p l (held-level l there) there
+
+      by-held : (l : ℕ) × (l ≤ h) × (held (over p l) ≡ true) → coveredb 12 rows p ≡ true
+      by-held (l, q, e) = covered-by-level 12 rows p l (omega arith) (rows-over l ∙ e)
 
 -- so their map is the table's
 pub map-of-rows : (h : ℕ) (T : List ℕ) → h ≤ 12 → InOrder h T

@@ -118,4 +118,5 @@ module _ (h : ℕ) (T : List ℕ) (low : h ≤ 12) (o : InOrder h T) where
   pub map-count : (rest : List ℕ) → counted (pageMap h T ++ rest) ≡ record { answer = 0; count = pages (countsOf h T) }
   unfolding counted
   map-count rest =
-      rw (le-ltb (length (pageMap h T ++ rest)) 512 (rw length-append (omega (arith, map-length h T))), take-at (pageMap h T) rest 512 (map-length h T), set-bits-of-map)
+      let long-enough : 512 ≤ length (pageMap h T ++ rest) = rw length-append (omega (arith, map-length h T)) in
+      rw (le-ltb (length (pageMap h T ++ rest)) 512 long-enough, take-at (pageMap h T) rest 512 (map-length h T), set-bits-of-map)

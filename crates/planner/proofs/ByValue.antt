@@ -1,13 +1,12 @@
 -- From a list of four entries of a function's own to a call on a list of four or more.
 use mathlib.Core.Path.{_≡_, ap, _∙_}
 use mathlib.Core.List.{List, _++_}
-use Prim.Native.Nat.{ℕ, zero, suc, _-_, _≤_}
-use native.Mathlib.Nat.{sub-zero}
-use native.Mathlib.Omega.{arith}
+use Prim.Native.Nat.{ℕ, _-_, _≤_}
 use borrow.Author.Tests.{le-ltb}
-use lib.ListN.{length, drop, replicate}
+use lib.ListN.{length, replicate}
 use Rattle.table.specs.Plan.{no-move}
 use Rattle.table.specs.declared.Move.{Move}
+use Rattle.table.proofs.Arrays.{drop-replicate}
 use Rattle.calls.specs.Step.{step}
 use Rattle.calls.specs.Value.{callOf, Gives}
 use Rattle.calls.specs.declared.Call.{Call}
@@ -15,22 +14,13 @@ use Rattle.calls.specs.declared.Call.the-variants.{GrantLevel, GrantPages, Rele
 use Rattle.planner.specs.declared.Report.{Report}
 use Rattle.planner.specs.Performed.{Performed}
 
-drop-of-replicate : {A : Type 0} (k n : ℕ) (a : A) → drop k (replicate n a) ≡ replicate (n - k) a
-drop-of-replicate zero n a = rw sub-zero
-drop-of-replicate (suc k) zero a =
-    let none : 0 - suc k ≡ 0 = omega arith in
-    rw none
-drop-of-replicate (suc k) (suc n) a =
-    let fewer : suc n - suc k ≡ n - k = omega arith in
-    rw fewer (drop-of-replicate k n a)
-
 -- The list of four entries without a move is handed back: the moves, and then entries without one.
 pub by-value : (h : ℕ) (c : Call) (T : List ℕ) (r : Report) (T′ : List ℕ) (M′ : List Move) → Performed h c T (replicate 4 no-move) r T′ M′
     → Gives (step h T (callOf c 4)) (record { answer = r .answer; plan = record { n = r .moves; moves = M′ } }) T′
 by-value h c T r T′ M′ p =
     let moves = step h T (callOf c 4) .moves in
     let list : M′ ≡ moves ++ replicate (4 - length moves) no-move =
-    p .moves ∙ ap (λ (rest : List Move). moves ++ rest) (drop-of-replicate (length moves) 4 no-move) in
+    p .moves ∙ ap (λ (rest : List Move). moves ++ rest) (drop-replicate (length moves) 4 no-move) in
     record { answer = p .answer; plan = λ i. record { n = p .count i; moves = list i }; table = p .table }
 
 -- more entries than four change nothing

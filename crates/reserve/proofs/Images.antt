@@ -10,6 +10,7 @@ use lib.Seq.{take-all, drop-cons, drop-drop, take-suc, take-suc-set, take-at, le
 use Rattle.table.specs.declared.Move.{Move}
 use Rattle.calls.specs.Accepted.{nobody}
 use Rattle.journal.specs.Format.{low, high, word, wordAt}
+use Rattle.journal.proofs.Fields.{word-low-high, low-word, high-word}
 use Rattle.journal.specs.Journal.{Bytes}
 use Rattle.reserve.specs.Image.{imageOf, numbersIn, tableOf, numbersOf, moveBytes}
 
@@ -142,10 +143,7 @@ decoded-all s nodes e inv =
 numbers-of-image : (T : List ℕ) → numbersIn (imageOf T) ≡ T
 unfolding numbersIn imageOf
 numbers-of-image [] = refl
-numbers-of-image (n ∷ T) = ap₂ (λ (x : ℕ) (xs : List ℕ). x ∷ xs) (whole n) (numbers-of-image T)
-  where
-    whole : (n : ℕ) → word (low n) (high n) ≡ n
-    whole n = omega arith
+numbers-of-image (n ∷ T) = ap₂ (λ (x : ℕ) (xs : List ℕ). x ∷ xs) (word-low-high n) (numbers-of-image T)
 
 -- a table is what its image stands for
 pub table-of-image : (T : List ℕ) → length T ≡ 4096 → tableOf (imageOf T) ≡ T
@@ -157,13 +155,7 @@ image-of-numbers k [] e b = refl
 image-of-numbers k (lo ∷ []) e b = absurd (omega arith)
 image-of-numbers zero (lo ∷ hi ∷ s) e b = absurd (omega arith)
 image-of-numbers (suc k) (lo ∷ hi ∷ s) e b =
-    rw (low-of-word lo hi (b 0), high-of-word lo hi (b 0), image-of-numbers k s (omega arith) (λ i. b (suc (suc i))))
-  where
-    low-of-word : (lo hi : ℕ) → lo < 256 → low (word lo hi) ≡ lo
-    low-of-word lo hi p = omega arith
-
-    high-of-word : (lo hi : ℕ) → lo < 256 → high (word lo hi) ≡ hi
-    high-of-word lo hi p = omega arith
+    rw (low-word lo hi (b 0), high-word lo hi (b 0), image-of-numbers k s (omega arith) (λ i. b (suc (suc i))))
 
 -- the image of what 8,192 bytes stand for is those bytes: to write a table back that did not change changes no byte
 pub image-of-table : (image : List ℕ) → length image ≡ 8192 → Bytes image → imageOf (tableOf image) ≡ image

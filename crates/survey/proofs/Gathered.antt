@@ -24,7 +24,8 @@ use Rattle.survey.proofs.InOrder.{counts-are-levels, in-order-iff-owned
 
 -- a test is as good as `in-order?` if it holds exactly for a table in order
 in-order-decided : (h : ℕ) (T : List ℕ) (b : Bool) → h ≤ 12 → (b ≡ true → InOrder h T) → (InOrder h T → b ≡ true) → b ≡ in-order? h T
-in-order-decided h T b low to from = equal-of-both-ways b (in-order? h T) (λ e. in-order-iff h T low .1 (to e)) (λ e. from (in-order-iff h T low .0 e))
+in-order-decided h T b low to from =
+    equal-of-both-ways b (in-order? h T) (λ e. in-order-iff h T low .1 (to e)) (λ e. from (in-order-iff h T low .0 e))
 
 in-order-denied : (h : ℕ) (T : List ℕ) → h ≤ 12 → ¬ InOrder h T → false ≡ in-order? h T
 in-order-denied h T low never = in-order-decided h T false low (λ e. absurd (false≢true e)) (λ i. absurd (never i))

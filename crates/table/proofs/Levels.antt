@@ -1,7 +1,7 @@
 -- What the owners of each level say of the table: their number is the number held, and all of them together are as many as the entries used
 -- exactly when no node stands twice.
 use mathlib.Core.Path.{_≡_, refl, sym, ap, _∙_}
-use mathlib.Core.Bool.{Bool, true, false, _&&_, and-false, and-true}
+use mathlib.Core.Bool.{_&&_, and-false, and-true}
 use mathlib.Core.Logic.{_↔_}
 use mathlib.Core.List.{List, [], _∷_}
 use Prim.Native.Nat.{ℕ, suc, _+_, _-_, _^_, _≤_, _<_}
@@ -23,12 +23,13 @@ use Rattle.tree.proofs.Room.{held-in-tree}
 use Rattle.tree.proofs.Sizes.{sizes-of-blocks, sizes-above}
 use Rattle.tree.proofs.Sum.{sum-cong, sum-swap, sum-stops, count-as-sum}
 use Rattle.table.specs.Table.{nodeOf, nodeAt, occupied, tabulate}
-use Rattle.table.specs.Pairing.{ownerOf}
 use Rattle.table.specs.Owners.{ownersFrom, ownersOf, usedIn, levelCount, countUpTo, levelCounts}
 use Rattle.table.proofs.Used.{tally-part}
 use Rattle.table.proofs.Tabulate.{tabulate-cong, getD-tabulate}
-use Rattle.table.proofs.Once.{Once, sum-of-one, held-le-used, used-of-once, once-of-used}
-use Rattle.table.proofs.Owners.{owned-is-occupied, owner-has-node, held-above-zero}
+use Rattle.table.proofs.Occupied.{occupied-within}
+use Rattle.table.proofs.Tally.{Once}
+use Rattle.table.proofs.Once.{sum-of-one, held-le-used, used-of-once, once-of-used}
+use Rattle.table.proofs.Owners.{owned-is-occupied}
 
 -- ---- the numbers held
 
@@ -90,13 +91,6 @@ pub tree-below-8192 : (h : ℕ) → h ≤ 12 → 2 ^ suc h ≤ 8192
 tree-below-8192 h q = pow-mono {i = suc h} {j = 13} (omega arith)
 
 module _ (h m : ℕ) (T : List ℕ) (fits : 2 ^ suc h ≤ m) (in-tree : (t : ℕ) → nodeAt T t < 2 ^ suc h) where
-  held-in-height : Within h (occupied T)
-  held-in-height n p =
-      record {
-        above-zero = held-above-zero T n p;
-        in-height = rw (owner-has-node T n p) at (in-tree (ownerOf T n));
-      }
-
   pub level-count-is-size : (l : ℕ) → l ≤ h → levelCount h (ownersOf m T) l ≡ sizes h (occupied T) l
   unfolding levelCount
   level-count-is-size l q =
@@ -105,7 +99,7 @@ module _ (h m : ℕ) (T : List ℕ) (fits : 2 ^ suc h ≤ m) (in-tree : (t : ℕ
       let length-is : length (ownersOf m T) ≡ m = length-owners (replicate m 0) 0 T ∙ length-replicate {A = ℕ} m 0 in
       tally-part (λ n. ltb 0 n) w w (ownersOf m T) (omega arith)
       ∙ sum-cong w (λ k r. ap one-if (owned-is-occupied m T (w + k) (omega (arith, pow-pos (h - l))) (omega arith)))
-      ∙ sym (sizes-by-index h (occupied T) held-in-height l q)
+      ∙ sym (sizes-by-index h (occupied T) (occupied-within h T in-tree) l q)
 
   -- and above the height there are none
   pub level-counts-are-sizes : levelCounts h (ownersOf m T) ≡ tabulate 0 13 (sizes h (occupied T))

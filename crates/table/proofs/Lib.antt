@@ -1,3 +1,4 @@
+pub mod Arrays
 pub mod Tally
 pub mod Order
 pub mod Distinct

@@ -22,7 +22,7 @@ tenant-below T t p = go (decLt t (length T))
     go (yes q) = q
     go (no q) = absurd (omega (arith, List·getD-eq-default T 0 {n = t} (omega arith)))
 
-stands-at : (T : List ℕ) (t : ℕ) → t < length T → stands T (nodeAt T t) ≡ true
+pub stands-at : (T : List ℕ) (t : ℕ) → t < length T → stands T (nodeAt T t) ≡ true
 unfolding stands
 stands-at [] t q = absurd (omega arith)
 stands-at (e ∷ T) zero q = rw (eq-eqb (nodeOf e) (nodeOf e) refl)
@@ -37,7 +37,8 @@ pub record Has (T : List ℕ) (n t : ℕ) : Type 0 where
   pub in-table : t < length T
   pub node-is : nodeAt T t ≡ n
 
-owner-stands : (T : List ℕ) (n : ℕ) → stands T n ≡ true → Has T n (ownerOf T n)
+-- `ownerOf` finds a tenant on the node
+pub owner-stands : (T : List ℕ) (n : ℕ) → stands T n ≡ true → Has T n (ownerOf T n)
 unfolding stands
 owner-stands [] n p = absurd (false≢true p)
 owner-stands (e ∷ T) n p = by-test (eqb (nodeOf e) n) refl p (owner-stands T n)

@@ -1,42 +1,25 @@
 -- A table has at least as many used entries as occupied nodes, and just as many exactly when no node stands in it twice.
 use mathlib.Core.Path.{_≡_, refl, sym, ap, ap₂, _∙_}
-use mathlib.Core.Bool.{Bool, true, false, not, _&&_, _||_, cond, false≢true, and-false, or-true}
+use mathlib.Core.Bool.{Bool, true, false, not, _&&_, _||_, false≢true, and-false}
 use mathlib.Core.List.{List, [], _∷_}
 use Prim.Native.Nat.{ℕ, zero, suc, _+_, _≤_, _<_}
 use native.Mathlib.Omega.{arith}
 use native.Mathlib.Decide.{ℕ-discrete}
-use borrow.Author.Tests.{ltb-true, lt-ltb, eqb-true, eq-eqb, ne-eqb}
+use borrow.Author.Tests.{ltb-true, lt-ltb, eq-eqb, ne-eqb}
 use lib.Dec.{ltb, eqb}
-use lib.ListN.{length}
 use Rattle.tree.specs.Held.{one-if, count}
 use Rattle.tree.specs.Pages.{sum}
 use Rattle.tree.proofs.Sum.{sum-cong, sum-of-zeros, sum-add, count-as-sum, count-of-none}
 use Rattle.table.specs.Table.{nodeOf, nodeAt, stands, occupied, tally}
 use Rattle.table.specs.Pairing.{ownerOf}
 use Rattle.table.specs.Owners.{usedIn}
+use Rattle.table.proofs.Occupied.{tenant-below, stands-at, owner-stands}
+use Rattle.table.proofs.Tally.{Once}
 
 -- ---- who stands on a node
 
--- no two tenants on one node
-abbrev pub Once : List ℕ → Type 0
-Once T = (t t′ : ℕ) → 0 < nodeAt T t → nodeAt T t ≡ nodeAt T t′ → t ≡ t′
-
 node-stands : (T : List ℕ) (t n : ℕ) → 0 < n → nodeAt T t ≡ n → stands T n ≡ true
-unfolding stands
-node-stands [] t n q e = absurd (omega arith)
-node-stands (x ∷ T) zero n q e = ap (λ b. b || stands T n) (eq-eqb (nodeOf x) n e)
-node-stands (x ∷ T) (suc t) n q e = ap (λ b. eqb (nodeOf x) n || b) (node-stands T t n q e) ∙ or-true (eqb (nodeOf x) n)
-
--- `ownerOf` finds a tenant on the node
-pub first-owner : (T : List ℕ) (n : ℕ) → stands T n ≡ true → (nodeAt T (ownerOf T n) ≡ n) × (ownerOf T n < length T)
-unfolding stands
-first-owner [] n s = absurd (false≢true s)
-first-owner (x ∷ T) n s = by-first (eqb (nodeOf x) n) refl s (first-owner T n)
-  where
-    by-first : (b : Bool) → eqb (nodeOf x) n ≡ b → (b || stands T n) ≡ true → (stands T n ≡ true → (nodeAt T (ownerOf T n) ≡ n) × (ownerOf T n < length T))
-        → (nodeAt (x ∷ T) (cond b 0 (suc (ownerOf T n))) ≡ n) × (cond b 0 (suc (ownerOf T n)) < suc (length T))
-    by-first true p s later = (eqb-true (nodeOf x) n p, omega arith)
-    by-first false p s later = let r = later s in (r .0, omega arith)
+node-stands T t n q e = rw e at (stands-at T t (tenant-below T t (omega arith)))
 
 -- ---- one entry more
 
@@ -118,7 +101,7 @@ once-absent : (x : ℕ) (T : List ℕ) → Once (x ∷ T) → 0 < nodeOf x → s
 once-absent x T once q = by-value (stands T (nodeOf x)) refl
   where
     by-value : (b : Bool) → stands T (nodeOf x) ≡ b → b ≡ false
-    by-value true s = let twice = once 0 (suc (ownerOf T (nodeOf x))) q (sym (first-owner T (nodeOf x) s .0)) in absurd (omega arith)
+    by-value true s = let twice = once 0 (suc (ownerOf T (nodeOf x))) q (sym (owner-stands T (nodeOf x) s .node-is)) in absurd (omega arith)
     by-value false s = refl
 
 once-of-absent : (x : ℕ) (T : List ℕ) → Once T → (0 < nodeOf x → stands T (nodeOf x) ≡ false) → Once (x ∷ T)

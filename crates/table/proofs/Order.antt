@@ -12,7 +12,7 @@ use lib.ListN.{length, getD, replicate, getD-replicate, List·getD-eq-default}
 use lib.Seq.{ext-getD}
 use lib.Pow.{pow-pos}
 use Rattle.tree.specs.Node.{InTree, level}
-use Rattle.tree.specs.Held.{Nodes, Within, Legal, Safe, one-if, count, sizes}
+use Rattle.tree.specs.Held.{Nodes, Legal, Safe, one-if, count, sizes}
 use Rattle.tree.proofs.Sum.{one-if-le-one}
 use Rattle.tree.proofs.Sizes.{sizes-above}
 use Rattle.tree.proofs.Count.{equal-of-both-ways}
@@ -209,7 +209,7 @@ module _ (h : ℕ) (T : List ℕ) where
 
 -- ---- the empty table
 
-empty-at : (n t : ℕ) → nodeAt (replicate n 0) t ≡ 0
+pub empty-at : (n t : ℕ) → nodeAt (replicate n 0) t ≡ 0
 empty-at zero t = refl
 empty-at (suc n) zero = refl
 empty-at (suc n) (suc t) = empty-at n t

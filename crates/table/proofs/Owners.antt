@@ -5,17 +5,18 @@ use mathlib.Core.List.{List, [], _∷_}
 use Prim.Native.Nat.{ℕ, zero, suc, _+_, _^_, _≤_, _<_}
 use native.Mathlib.Omega.{arith}
 use native.Mathlib.Decide.{decLt}
-use borrow.Author.Tests.{lt-ltb, le-ltb, ltb-true, lt-leb, le-leb, eqb-true, eqb-false, ne-eqb}
-use lib.Dec.{ltb, leb, eqb}
+use borrow.Author.Tests.{lt-ltb, ltb-true, eqb-true, eqb-false}
+use lib.Dec.{ltb, eqb}
 use lib.Bits.{bitOr, or-lt, or-add-and, and-le-l, and-le-r}
 use lib.ListN.{length, getD, set, drop, replicate, drop-of-length-le, length-set, length-replicate, getD-replicate, List·getD-eq-default}
 use lib.Pow.{pow-pos}
 use lib.Seq.{drop-cons, getD-set-same, getD-set-other}
 use Rattle.tree.proofs.Count.{equal-of-both-ways}
-use Rattle.table.specs.Table.{nodeOf, nodeAt, stands, occupied, tally}
+use Rattle.table.specs.Table.{nodeOf, nodeAt, stands, occupied}
 use Rattle.table.specs.Pairing.{ownerOf}
 use Rattle.table.specs.Owners.{nodes-below, ownersFrom, ownersOf}
-use Rattle.table.proofs.Once.{Once, first-owner}
+use Rattle.table.proofs.Occupied.{occupied-above-zero, owner-has}
+use Rattle.table.proofs.Tally.{Once}
 
 -- ---- one tenant after another
 
@@ -146,24 +147,14 @@ owned-is-occupied m T n p q = by-value (stands T n) refl
     by-value false s = rw (owner-kept (replicate m 0) 0 T n s, getD-replicate {A = ℕ} m n 0 0 q, s, lt-ltb 0 n p)
 
 module _ (T : List ℕ) (n : ℕ) (held : occupied T n ≡ true) where
-  pub held-above-zero : 0 < n
-  unfolding occupied
-  held-above-zero = ltb-true 0 n (and-eq-true-iff (ltb 0 n) (stands T n) .0 held .0)
-
   held-stands : stands T n ≡ true
   unfolding occupied
   held-stands = and-eq-true-iff (ltb 0 n) (stands T n) .0 held .1
-
-  pub owner-has-node : nodeAt T (ownerOf T n) ≡ n
-  owner-has-node = first-owner T n held-stands .0
-
-  pub owner-in-table : ownerOf T n < length T
-  owner-in-table = first-owner T n held-stands .1
 
   -- where no node stands twice, the owner stored is the tenant whose node it is
   pub owner-is-tenant : (m : ℕ) → n < m → Once T → getD (ownersOf m T) n 0 ≡ suc (ownerOf T n)
   owner-is-tenant m q once =
       let r = owner-stored-first m T n q held-stands in
       let same : r .tenant ≡ ownerOf T n =
-      once (r .tenant) (ownerOf T n) (omega (arith, held-above-zero, r .node)) (r .node ∙ sym owner-has-node) in
+      once (r .tenant) (ownerOf T n) (omega (arith, occupied-above-zero T n held, r .node)) (r .node ∙ sym (owner-has T n held .node-is)) in
       r .owner ∙ omega arith

@@ -28,7 +28,7 @@ use Rattle.table.specs.declared.plan.Planned.{Planned}
 use Rattle.table.proofs.Order.{in-order-fits, in-order-is-layout}
 use Rattle.table.proofs.Shifting.{near-turned}
 use Rattle.table.proofs.Occupied.{tenant-of, occupied-above-zero, occupied-by, occupied-within, owner-has}
-use Rattle.table.proofs.Once.{Once}
+use Rattle.table.proofs.Tally.{Once}
 use Rattle.table.proofs.Owners.{owner-is-tenant}
 use Rattle.table.proofs.Levels.{tree-below-8192}
 use Rattle.table.proofs.Shifts.{old-of-shift}

@@ -33,7 +33,8 @@ tabulate-const i zero c = refl
 tabulate-const i (suc n) c = ap (λ (xs : List ℕ). c ∷ xs) (tabulate-const (suc i) n c)
 
 -- two functions that differ at one number only
-pub set-tabulate : (i n k : ℕ) {f g : ℕ → ℕ} (at : ℕ) → i + k ≡ at → k < n → ((j : ℕ) → ¬ (j ≡ at) → f j ≡ g j) → set (tabulate i n f) k (g at) ≡ tabulate i n g
+pub set-tabulate : (i n k : ℕ) {f g : ℕ → ℕ} (at : ℕ) → i + k ≡ at → k < n → ((j : ℕ) → ¬ (j ≡ at) → f j ≡ g j)
+    → set (tabulate i n f) k (g at) ≡ tabulate i n g
 set-tabulate i zero k at e q same = absurd (omega arith)
 set-tabulate i (suc n) zero {f} {g} at e q same =
     let i-is-at : i ≡ at = omega arith in
@@ -61,7 +62,8 @@ fill-none n k f zeros = sym (tabulate-cong 0 n (λ j q r. value j (decLe k j)) �
 
 pub fill-more : (n k : ℕ) (f : ℕ → ℕ) → k < n → set (tabulate 0 n (from (suc k) f)) k (f k) ≡ tabulate 0 n (from k f)
 fill-more n k f q =
-    ap (set (tabulate 0 n (from (suc k) f)) k) (sym (from-above k f k (omega arith))) ∙ set-tabulate 0 n k k (omega arith) q (λ j d. same j d (decLe k j))
+    ap (set (tabulate 0 n (from (suc k) f)) k) (sym (from-above k f k (omega arith)))
+    ∙ set-tabulate 0 n k k (omega arith) q (λ j d. same j d (decLe k j))
   where
     same : (j : ℕ) → ¬ (j ≡ k) → Dec (k ≤ j) → from (suc k) f j ≡ from k f j
     same j d (yes r) = from-above (suc k) f j (omega arith) ∙ sym (from-above k f j r)

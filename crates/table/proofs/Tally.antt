@@ -1,14 +1,13 @@
 -- Laws of `tally`: how many entries of a table pass a test of their node.
-use mathlib.Core.Path.{_≡_, refl, sym, ap, ap₂, _∙_}
-use mathlib.Core.Bool.{Bool, true, false, _&&_, _||_, false≢true, and-eq-true-iff, and-true, and-false, or-true}
-use mathlib.Core.Logic.{_↔_}
+use mathlib.Core.Path.{_≡_, refl, sym, ap, _∙_}
+use mathlib.Core.Bool.{Bool, true, false, _&&_, false≢true, and-eq-true-iff, and-true, and-false}
 use mathlib.Core.List.{List, [], _∷_}
 use Prim.Native.Nat.{ℕ, zero, suc, _+_, _≤_, _<_}
 use native.Mathlib.Omega.{arith}
-use native.Mathlib.Decide.{ℕ-discrete, decLt}
-use borrow.Author.Tests.{ltb-true, lt-ltb, eqb-true, eq-eqb, ne-eqb}
-use lib.Dec.{eqb, ltb}
-use lib.ListN.{length, List·getD-eq-default}
+use native.Mathlib.Decide.{ℕ-discrete}
+use borrow.Author.Tests.{eqb-true, eq-eqb, ne-eqb}
+use lib.Dec.{eqb}
+use lib.ListN.{length}
 use Rattle.tree.specs.Held.{one-if, count}
 use Rattle.tree.specs.Pages.{sum}
 use Rattle.tree.proofs.Sum.{sum-cong, sum-first, sum-of-zeros, sum-swap, count-as-sum, count-of-none, count-le-one}
@@ -63,7 +62,10 @@ node-stands-once T once n q = tally-by-tenants (eqb n) T ∙ by-value (occupied 
         let one = count-le-one (length T) on-n same in
         omega arith
     by-value false v =
-        count-of-none (length T) on-n (λ t r f. let e : nodeAt T t ≡ n = sym (eqb-true n (nodeAt T t) f) in false≢true (sym v ∙ rw e at (occupied-by T t (omega arith))))
+        count-of-none (length T) on-n
+        (λ t r f.
+        let e : nodeAt T t ≡ n = sym (eqb-true n (nodeAt T t) f) in
+        false≢true (sym v ∙ rw e at (occupied-by T t (omega arith))))
 
 -- and where each node of the table stands in it once, no two tenants are on one
 pub once-of-tally : (T : List ℕ) → ((t : ℕ) → 0 < nodeAt T t → tally (eqb (nodeAt T t)) T ≤ 1) → Once T

@@ -1,21 +1,22 @@
 -- To carry out the list of moves, entry by entry, is to bring everybody into the new set.
 use mathlib.Core.Path.{_≡_, refl, sym, ap, _∙_}
 use mathlib.Core.List.{List, [], _∷_, map}
-use mathlib.Core.List.{List·Memᴰ as In, List·Memᴰ·head as at-head, List·Memᴰ·tail as in-tail, List·Memᴰ·not-nil as not-nil, List·Memᴰ·cases-cons as head-or-tail}
+use mathlib.Core.List.{List·Memᴰ as In, List·Memᴰ·head as at-head, List·Memᴰ·tail as in-tail}
+use mathlib.Core.List.{List·Memᴰ·not-nil as not-nil, List·Memᴰ·cases-cons as head-or-tail}
 use mathlib.Core.List.{Memᴰ·map as in-map, Memᴰ·of-map as of-map}
 use mathlib.Core.Logic.{_⊎_, inl, inr}
-use Prim.Native.Nat.{ℕ, zero, suc, _<_}
+use Prim.Native.Nat.{ℕ, _<_}
 use native.Mathlib.Nat.{eq-zero-or-pos}
 use native.Mathlib.Decide.{ℕ-discrete}
 use lib.ListN.{length, getD, set, length-set}
 use lib.Seq.{getD-set-same, getD-set-other, ext-getD}
 use Rattle.tree.specs.Held.{Nodes}
-use Rattle.table.specs.Table.{nodeAt, occupied}
+use Rattle.table.specs.Table.{nodeAt}
 use Rattle.table.specs.Pairing.{moved, movesOf, written}
 use Rattle.table.specs.declared.Move.{Move}
 use Rattle.table.proofs.Distinct.{Distinct, at-place}
 use Rattle.table.proofs.Moved.{Movable, moved-length, moved-nothing}
-use Rattle.table.proofs.Moves.{Moves, of-moves, move-of, distinct-tenants}
+use Rattle.table.proofs.Moves.{of-moves, move-of, distinct-tenants}
 
 pub written-length : (T : List ℕ) (ms : List Move) → length (written T ms) ≡ length T
 unfolding written
@@ -31,7 +32,8 @@ written-beside T [] t out = refl
 written-beside T (m ∷ ms) t out =
     written-beside (set T (m .tenant) (m .to)) ms t (λ k. out (in-tail k)) ∙ getD-set-other T (m .tenant) t (m .to) 0 (λ e. out (at-head e))
 
-written-at : (T : List ℕ) (ms : List Move) → Distinct (tenants ms) → (m : Move) → In m ms → m .tenant < length T → getD (written T ms) (m .tenant) 0 ≡ m .to
+written-at : (T : List ℕ) (ms : List Move) → Distinct (tenants ms) → (m : Move) → In m ms → m .tenant < length T
+    → getD (written T ms) (m .tenant) 0 ≡ m .to
 unfolding written
 written-at T (x ∷ ms) d m (at-head e) q =
     written-beside (set T (x .tenant) (x .to)) ms (m .tenant) (λ k. d .0 (rw (ap (λ (y : Move). y .tenant) e) at k))
@@ -69,7 +71,8 @@ module _ {h : ℕ} {N : Nodes} {T : List ℕ} (M : Movable h N T) where
 
   pub written-is-moved : written T (movesOf h N T) ≡ moved h N T
   written-is-moved =
-      ext-getD 0 (written T (movesOf h N T)) (moved h N T) (written-length T (movesOf h N T) ∙ sym (moved-length h N T)) (λ t q. go t (in-list? t (tenants (movesOf h N T))))
+      ext-getD 0 (written T (movesOf h N T)) (moved h N T) (written-length T (movesOf h N T) ∙ sym (moved-length h N T))
+      (λ t q. go t (in-list? t (tenants (movesOf h N T))))
     where
       go : (t : ℕ) → Dec (In t (tenants (movesOf h N T))) → getD (written T (movesOf h N T)) t 0 ≡ getD (moved h N T) t 0
       go t (no out) = written-beside T (movesOf h N T) t out ∙ sym (stays-put t out)

@@ -70,7 +70,8 @@ fn store(table: &[u16], owner: &mut [u16; NODES])
 pub fn owners(height: u16, table: &[u16], owner: &mut [u16; NODES]) -> bool
     requires { ⌜ (length (now table) ≤ 4096) × (height ≤ 12) ⌝ }
     ensures below { λ r. ⌜ r ≡ nodes-below (2 ^ suc height) (now (table .entry)) ⌝ }
-    ensures stored { λ _. ⌜ now (owner .exit) ≡ storedIf (nodes-below (2 ^ suc height) (now (table .entry))) (now (owner .entry)) (now (table .entry)) ⌝ }
+    ensures stored { λ _. ⌜ now (owner .exit)
+        ≡ storedIf (nodes-below (2 ^ suc height) (now (table .entry))) (now (owner .entry)) (now (table .entry)) ⌝ }
 {
     let limit = 2 * layout::power(height);
     if any_bits(table) < limit {

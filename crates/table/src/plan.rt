@@ -24,7 +24,7 @@ pub struct Row {
 
 impl Row {
     // Whether the block with this index is in the row.
-    pub fn holds(self, index: u16) -> bool
+    fn holds(self, index: u16) -> bool
         ensures { λ r. ⌜ r ≡ rowHolds self index ⌝ }
     {
         if index == self.hole {
@@ -81,7 +81,7 @@ fn better(old: Row, new: Row, from: u16, candidate: u16, best: u16) -> u16
 }
 
 // The least index from `from` on that is in `old` and not in `new`; NONE if there is none.
-pub fn least(old: Row, new: Row, from: u16) -> u16
+fn least(old: Row, new: Row, from: u16) -> u16
     requires near { ⌜ Near (old .start) (old .run) (new .start) (new .run) ⌝ }
     requires fits { ⌜ old .start + old .run ≤ 2 ^ 16 ⌝ }
     ensures { λ r. ⌜ r ≡ leastOnly old new from ⌝ }
@@ -115,7 +115,7 @@ impl Plan {
     }
 
     // The plan with one move more, at the end.
-    pub fn push(self, m: Move) -> Plan
+    fn push(self, m: Move) -> Plan
         requires { ⌜ (self .n < 4) × (self ≡ planOf (movesIn self)) ⌝ }
         ensures { λ r. ⌜ r ≡ planOf (movesIn self ++ (m ∷ [])) ⌝ }
     {
@@ -144,8 +144,9 @@ pub struct Shifted {
     pub spare: u16,
 }
 
-// The plan with the moves from one row to another at its end: the blocks that are in `old` and not in `new` go, left to right, to the places that are in `new`
-// and not in `old`; spare is the first place left over. The level's first node is `base`, and `owners` has each node's tenant and one.
+// The plan with the moves from one row to another at its end: the blocks that are in `old` and not in `new` go, left to right, to the places
+// that are in `new` and not in `old`; spare is the first place left over. The level's first node is `base`, and `owners` has each node's tenant
+// and one.
 fn shift_rows(plan: Plan, base: u16, old: Row, new: Row, owners: &[u16; NODES]) -> Shifted
     requires rows { ⌜ Shiftable base old new (now owners) ⌝ }
     requires room { ⌜ (plan .n + length (levelShifts base old new) ≤ 4) × (plan ≡ planOf (movesIn plan)) ⌝ }
@@ -163,7 +164,7 @@ fn shift_rows(plan: Plan, base: u16, old: Row, new: Row, owners: &[u16; NODES]) 
 }
 
 // The same as `shift_rows`, but a level that stays as it was, as most do, is not searched.
-pub fn shift_level(plan: Plan, base: u16, old: Row, new: Row, owners: &[u16; NODES]) -> Shifted
+fn shift_level(plan: Plan, base: u16, old: Row, new: Row, owners: &[u16; NODES]) -> Shifted
     requires rows { ⌜ Shiftable base old new (now owners) ⌝ }
     requires room { ⌜ (plan .n + length (levelShifts base old new) ≤ 4) × (plan ≡ planOf (movesIn plan)) ⌝ }
     ensures { λ r. ⌜ LevelShifted base old new (now (owners .entry)) plan r ⌝ }

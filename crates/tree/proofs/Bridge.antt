@@ -40,10 +40,14 @@ module _ (h : ℕ) (A : Nodes) (B : Blocks) (S : SameSet h A B) where
   pub legal-blocks : Legal A → BLegal B
   legal-blocks L a b p q m = go (meet-cases a b m)
     where
+      not-inside : (x y : Block) → B x ≡ true → B y ≡ true → ¬ Inside x y
+      not-inside x y s t i =
+          L (node h x) (node h y) (held-node x s) (held-node y t) (inside-under h x y (S .blocks-within x s) (S .blocks-within y t) i)
+
       go : (a ≡ b) ⊎ (Inside a b ⊎ Inside b a) → a ≡ b
       go (inl e) = e
-      go (inr (inl s)) = absurd (L (node h a) (node h b) (held-node a p) (held-node b q) (inside-under h a b (S .blocks-within a p) (S .blocks-within b q) s))
-      go (inr (inr s)) = absurd (L (node h b) (node h a) (held-node b q) (held-node a p) (inside-under h b a (S .blocks-within b q) (S .blocks-within a p) s))
+      go (inr (inl s)) = absurd (not-inside a b p q s)
+      go (inr (inr s)) = absurd (not-inside b a q p s)
 
   pub legal-nodes : BLegal B → Legal A
   legal-nodes L u v p q s =

@@ -3,7 +3,8 @@ use mathlib.Core.Path.{_≡_, refl, sym, ap, ap₂, _∙_}
 use mathlib.Core.Logic.{_⊎_, inl, inr}
 use Prim.Native.Nat.{ℕ, zero, suc, _+_, _-_, _*_, _^_, _≤_, _<_}
 use native.Mathlib.Omega.{arith}
-use native.Mathlib.Nat.{mul-le-mul-right, mul-le-mul-left, lt-of-mul-lt-mul-right, le-of-mul-le-mul-right, le-dest, sub-add-cancel, pow-suc, mul-one, lt-of-not-le, add-sub-cancel}
+use native.Mathlib.Nat.{mul-le-mul-right, mul-le-mul-left, lt-of-mul-lt-mul-right, le-of-mul-le-mul-right}
+use native.Mathlib.Nat.{le-dest, sub-add-cancel, pow-suc, mul-one, lt-of-not-le, add-sub-cancel}
 use native.Mathlib.Decide.{decLt}
 use lib.Pow.{pow-add, pow-pos, pow-mono, pow-lt}
 use Rattle.tree.specs.Node.{InTree, Child, Under, child, deeper, depth, level, firstPage, pastPage, LeftOf}
@@ -43,15 +44,15 @@ node-depth h b p = depth-is (h - b .level) (node h b) (node-highest h b p)
 pub node-level : (h : ℕ) (b : Block) → past b ≤ 2 ^ h → level h (node h b) ≡ b .level
 node-level h b p = rw (node-depth h b p) (omega (arith, level-le h b p))
 
+pub suc-sub-le : (x y : ℕ) → suc (x - y) ≤ suc x
+suc-sub-le x y = omega arith
+
 pub node-in-tree : (h : ℕ) (b : Block) → past b ≤ 2 ^ h → InTree h (node h b)
 node-in-tree h b p =
     record {
       above-zero = omega (arith, pow-pos (h - b .level));
       in-height = omega (arith, node-highest h b p .high, pow-mono (suc-sub-le h (b .level)));
     }
-  where
-    suc-sub-le : (x y : ℕ) → suc (x - y) ≤ suc x
-    suc-sub-le x y = omega arith
 
 pub node-index : (h : ℕ) (b : Block) → past b ≤ 2 ^ h → node h b - 2 ^ depth (node h b) ≡ b .index
 node-index h b p = rw (node-depth h b p) (omega arith)

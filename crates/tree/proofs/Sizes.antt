@@ -13,14 +13,11 @@ use Rattle.tree.specs.Held.{Nodes, one-if, count, sizes}
 use Rattle.tree.specs.Block.{Block, past, node, Blocks, bsizes}
 use Rattle.tree.specs.Pages.{sum}
 use Rattle.tree.proofs.Highest.{Highest, depth-highest}
-use Rattle.tree.proofs.Coordinates.{level-le, past-le, depth-le, node-level}
+use Rattle.tree.proofs.Coordinates.{level-le, past-le, depth-le, node-level, suc-sub-le}
 use Rattle.tree.proofs.Bridge.{SameSet}
 use Rattle.tree.proofs.Sets.{both-left, both-right}
 use Rattle.tree.proofs.Sum.{sum-cong, sum-of-zeros, sum-split, sum-stops, one-if-not-true, count-as-sum, count-of-none}
 use Rattle.tree.proofs.Room.{heldAt, held-in-tree}
-
-suc-sub-le : (h l : ℕ) → suc (h - l) ≤ suc h
-suc-sub-le h l = omega arith
 
 -- no node has a level above the height
 pub sizes-above : (h : ℕ) (A : Nodes) (l : ℕ) → h < l → sizes h A l ≡ 0

@@ -15,7 +15,8 @@ use Rattle.tree.proofs.Room.{legal-fits}
 use Rattle.tree.proofs.Unique.{bsafe-unique}
 
 -- two sets of nodes whose sets of blocks are equal
-nodes-of-equal-blocks : (h : ℕ) (A A′ : Nodes) (B B′ : Blocks) → SameSet h A B → SameSet h A′ B′ → ((b : _) → B b ≡ B′ b) → (n : ℕ) → Held A n → Held A′ n
+nodes-of-equal-blocks : (h : ℕ) (A A′ : Nodes) (B B′ : Blocks) → SameSet h A B → SameSet h A′ B′ → ((b : _) → B b ≡ B′ b)
+    → (n : ℕ) → Held A n → Held A′ n
 nodes-of-equal-blocks h A A′ B B′ S S′ e n p =
     let q = held-node h A′ B′ S′ (blockOf h n) (sym (e (blockOf h n)) ∙ held-block h A B S n p) in
     rw (node-of-block h n (S .nodes-within n p)) at q

@@ -63,7 +63,8 @@ span-highest m n d e b s =
     }
 
 -- The numbers of a span, as pages: m is node 2^(d+e+1) + i, e + 1 levels under node 2^d + j, and l is its level.
-span-pages : (l e d i j : ℕ) → Span (2 ^ (d + suc e) + i) (2 ^ d + j) e → (j * 2 ^ (l + suc e) ≤ i * 2 ^ l) × (suc i * 2 ^ l ≤ suc j * 2 ^ (l + suc e))
+span-pages : (l e d i j : ℕ) → Span (2 ^ (d + suc e) + i) (2 ^ d + j) e
+    → (j * 2 ^ (l + suc e) ≤ i * 2 ^ l) × (suc i * 2 ^ l ≤ suc j * 2 ^ (l + suc e))
 span-pages l e d i j s =
     let low : (2 ^ d + j) * 2 ^ suc e ≤ 2 ^ d * 2 ^ suc e + i = rw pow-add at (s .low) in
     let high : 2 ^ d * 2 ^ suc e + i < suc (2 ^ d + j) * 2 ^ suc e = rw pow-add at (s .high) in (

@@ -40,7 +40,9 @@ below-256 : (c : tie.In-loop Inv-loop μ-loop) → c .before .loop .sum * 2 + fl
 below-256 c =
     let b : ℕ = c .before .loop .b - 1 in
     let x = c .before .loop .sum * 2 + flagOf c b in
-    omega (arith, next c b refl, le-mul-of-pos-right x (pow-pos b), byte-of-bits (λ p. getD (now (c .before .before .args .pages)) p 0) (c .before .before .pre .1) (c .before .before .args .j))
+    let start = c .before .before in
+    let byte = byte-of-bits (λ p. getD (now (start .args .pages)) p 0) (start .pre .1) (start .args .j) in
+    omega (arith, next c b refl, le-mul-of-pos-right x (pow-pos b), byte)
 
 mul-sum : tie.Need-mul-sum Inv-loop μ-loop
 mul-sum c = omega (arith, below-256 c)

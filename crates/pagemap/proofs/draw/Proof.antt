@@ -43,9 +43,8 @@ survey-requires : tie.Need-survey-requires
 survey-requires c κs = let s = reserve (c .before) in (s .low, s .long, refl)
 
 -- what the survey shows
-shown : (c : tie.After-survey)
-    → Surveyed (c .before .before .before .before .before .before .args .height) (now (c .before .before .before .before .before .before .args .table))
-    (c .survey .last .1 .1 .0) (c .survey .result)
+shown : (c : tie.After-survey) → let a = c .before .before .before .before .before .before .args in
+    Surveyed (a .height) (now (a .table)) (c .survey .last .1 .1 .0) (c .survey .result)
 shown c =
     let s = reserve (c .before .before) in
     surveyed _ _ (s .low) (s .long) _ _ (c .survey .ensures .0) (c .survey .ensures .1)
@@ -98,7 +97,8 @@ same-length c = search needs
 
 returns-4 : tie.Need-returns-4
 returns-4 c =
-    let at = c .before .before .before .before .before .before .before in
+    let at-test = c .before .before .before .before .before .before in
+    let at = at-test .before in
     let rest = drop 512 (mapOf at) in
     let rows = c .before .before .before .before .layout .ensures ∙ ap rowsOf (counts-there at) in
     let written =
@@ -106,7 +106,7 @@ returns-4 c =
     ∙ ap (λ (L : Layout). bytesOf 512 (λ p. one-if (coveredb 12 (rowsHold L) p)) ++ rest) rows
     ∙ ap (λ (xs : List ℕ). xs ++ rest) (map-of-rows (heightOf at) (tableOf at) (reserve-there at .low) (in-order at)) in
     ap (drawing 0) written
-    ∙ sym (drawn-done (heightOf at) (tableOf at) (mapOf at) (reserve-there at) (in-order-there at) (c .before .before .before .before .before .before .if3 .left))
+    ∙ sym (drawn-done (heightOf at) (tableOf at) (mapOf at) (reserve-there at) (in-order-there at) (at-test .if3 .left))
 
 pub draw-spec : {M : Type 1} → statement M
 draw-spec =

@@ -37,7 +37,8 @@ loop-again : tie.Need-loop-again Inv-loop μ-loop
 loop-again c =
     let a = c .before .before .before .args in
     let i = c .before .loop .i in
-    (omega arith, omega arith, ap (λ (xs : List ℕ). set xs i 1) (c .before .loop .inv .2) ∙ rw (add-one i) (filled-more (a .from) (now (a .pages)) i (omega arith) (omega arith)))
+    let one-more = filled-more (a .from) (now (a .pages)) i (omega arith) (omega arith) in
+    (omega arith, omega arith, ap (λ (xs : List ℕ). set xs i 1) (c .before .loop .inv .2) ∙ rw (add-one i) one-more)
 
 returns : tie.Need-returns Inv-loop μ-loop
 returns c =

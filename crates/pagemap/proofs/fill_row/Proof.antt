@@ -43,12 +43,15 @@ mul-fill-4 c = pages-fit _ _ (omega arith) (omega arith)
 fill-requires-2 : tie.Need-fill-requires-2
 fill-requires-2 c κs =
     let a = c .before .before .before .args in
-    ap length (c .before .fill .ensures) ∙ filled-length (a .start * a .size) ((a .start + a .run) * a .size) (now (a .pages)) ∙ c .before .before .before .pre .1
+    ap length (c .before .fill .ensures)
+    ∙ filled-length (a .start * a .size) ((a .start + a .run) * a .size) (now (a .pages))
+    ∙ c .before .before .before .pre .1
 
 returns : tie.Need-returns
 returns c =
     let a = c .before .before .before .before .args in
-    c .fill2 .ensures ∙ ap₂ (λ (b : ℕ) (xs : List ℕ). filled (a .lone * a .size) (b * a .size) xs) (add-one (a .lone)) (c .before .before .fill .ensures)
+    c .fill2 .ensures
+    ∙ ap₂ (λ (b : ℕ) (xs : List ℕ). filled (a .lone * a .size) (b * a .size) xs) (add-one (a .lone)) (c .before .before .fill .ensures)
 
 pub fill-row-spec : {M : Type 1} → statement M
 fill-row-spec =

@@ -26,7 +26,9 @@ byte-requires c κs = (search needs, c .before .before .before .pre .1)
 
 -- the map keeps its length
 same-bytes : (c : tie.At-loop Inv-loop μ-loop) → length (c .loop .map) ≡ length (now (c .before .before .args .map))
-same-bytes c = ap length (c .loop .inv .1) ∙ written-length (λ p. getD (now (c .before .before .args .pages)) p 0) (now (c .before .before .args .map)) (c .loop .j) (omega arith)
+same-bytes c =
+    let a = c .before .before .args in
+    ap length (c .loop .inv .1) ∙ written-length (λ p. getD (now (a .pages)) p 0) (now (a .map)) (c .loop .j) (omega arith)
 
 slice-write-map : tie.Need-slice-write-map Inv-loop μ-loop
 slice-write-map c = omega (arith, same-bytes (c .before .before))

@@ -32,20 +32,21 @@ cast-room c = search needs
 total-requires : tie.Need-total-requires
 total-requires c κs = search needs
 
+abbrev started : tie.Else1 → tie.Start
+started c = c .before .before .before .before
+
 -- where the first test is passed, no node stands twice
-counted : (c : tie.Else1)
-    → usedIn (now (c .before .before .before .before .args .table)) ≡ sum 13 (λ (l : ℕ). getD (c .before .before .before .before .args .counts .at) l 0)
+counted : (c : tie.Else1) → usedIn (now (started c .args .table)) ≡ sum 13 (λ (l : ℕ). getD (started c .args .counts .at) l 0)
 counted c = sym (c .before .before .used .ensures) ∙ c .if1 .left ∙ c .before .held .ensures
 
 returns-2 : tie.Need-returns-2
 returns-2 c =
     let i = c .before .before .before in
-    let over : 2 ^ i .before .before .before .before .args .height < pages (i .before .before .before .before .args .counts .at) =
+    let over : 2 ^ started i .args .height < pages (started i .args .counts .at) =
     omega (arith, c .before .before .power .ensures, c .before .total .ensures) in
-    no-room-not-in-order (i .before .before .before .before .pre) (counted i) over
+    no-room-not-in-order (started i .pre) (counted i) over
 
-fits : (c : tie.Else2)
-    → pages (c .before .before .before .before .before .before .before .args .counts .at) ≤ 2 ^ c .before .before .before .before .before .before .before .args .height
+fits : (c : tie.Else2) → pages (started (c .before .before .before) .args .counts .at) ≤ 2 ^ started (c .before .before .before) .args .height
 fits c = omega (arith, c .before .before .power .ensures, c .before .total .ensures)
 
 settled-requires : tie.Need-settled-requires
@@ -54,7 +55,7 @@ settled-requires c κs = search needs
 returns-3 : tie.Need-returns-3
 returns-3 c =
     let i = c .before .before .before .before in
-    c .settled .ensures ∙ owned-is-in-order (i .before .before .before .before .pre) (counted i) (fits (c .before))
+    c .settled .ensures ∙ owned-is-in-order (started i .pre) (counted i) (fits (c .before))
 
 pub ordered-spec : {M : Type 1} → statement M
 ordered-spec =

@@ -73,12 +73,14 @@ returns : tie.Need-returns Inv-loop μ-loop
 returns c =
     let i = c .before .before in
     rw (← i .before .before .before .before .before .layout .ensures)
-    (looked-gap (low i) (lone-rows i) (i .loop-test .taken) (i .before .loop .inv) (c .before .level-settled .ensures) (not-true _ (c .if1 .taken)))
+    (looked-gap (low i) (lone-rows i) (i .loop-test .taken) (i .before .loop .inv) (c .before .level-settled .ensures)
+    (not-true _ (c .if1 .taken)))
 
 mul-first : tie.Need-mul-first Inv-loop μ-loop
 mul-first c =
     let i = c .before .before in
-    let bound = power-le-4096 (suc (i .before .before .before .before .before .before .before .args .height) - i .before .loop .level) (omega arith) in
+    let height = i .before .before .before .before .before .before .before .args .height in
+    let bound = power-le-4096 (suc height - i .before .loop .level) (omega arith) in
     omega (arith, i .before .loop .inv .first)
 
 loop-less : tie.Need-loop-less Inv-loop μ-loop

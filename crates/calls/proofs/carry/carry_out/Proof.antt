@@ -1,16 +1,16 @@
 -- `calls::carry::carry_out` meets its contract. The loop's invariant: to carry out the moves left on the table as it is gives what all of them
 -- give on the table as it was. The measure is how many are left.
-use mathlib.Core.Path.{_≡_, refl, sym, ap, _∙_}
-use mathlib.Core.List.{List}
+use mathlib.Core.Path.{_≡_, refl, sym, _∙_}
 use Prim.Native.Nat.{ℕ, _-_, _≤_, _<_, zero-le}
 use native.Mathlib.Numerals.{add-one}
 use native.Mathlib.Omega.{arith}
 use borrow.Author.Needs.{needs}
-use lib.ListN.{length, take, drop, set, getD, length-set}
+use lib.ListN.{length, take, drop, getD, length-set}
 use lib.Seq.{getD-take}
 use Rattle.table.specs.Pairing.{written}
 use Rattle.calls.specs.Accepted.{nobody}
-use Rattle.calls.proofs.Carried.{written-step, written-end, first-n, length-of-mapped}
+use Rattle.table.proofs.Arrays.{length-of-mapped}
+use Rattle.calls.proofs.Carried.{written-step, written-end, first-n}
 use Rattle.calls.proofs.carry.carry_out.Statement.{statement}
 use Rattle.calls.proofs.carry.carry_out.Tie as tie
 

@@ -20,7 +20,8 @@ shown : (y : tie.After-survey)
     → Surveyed (surveyed-from y .args .height) (surveyed-from y .args .table .now) (y .survey .last .1 .1 .0) (y .survey .result)
 shown y =
     let start = surveyed-from y in
-    surveyed (start .args .height) (start .args .table .now) (start .pre .0 .height) (start .pre .0 .entries) _ _ (y .survey .ensures .0) (y .survey .ensures .1)
+    surveyed (start .args .height) (start .args .table .now) (start .pre .0 .height) (start .pre .0 .entries) _ _
+    (y .survey .ensures .0) (y .survey .ensures .1)
 
 looked : (x : tie.After-counts)
     → Looked (started x .args .height) (started x .args .table .now) (x .before .before .before .survey .result .counts .at)

@@ -9,13 +9,16 @@ use borrow.Author.Tests.{ltb-false}
 use lib.Dec.{eqb, ltb}
 use Rattle.calls.specs.Step.{Check, check, length-checks, list-checks, size-checks}
 use Rattle.calls.specs.Value.{callOf}
-use Rattle.calls.proofs.Checks.{first-after-none, first-stands, not-applied, validity-parts}
+use Rattle.calls.proofs.Checks.{Numbered, first-after-none, first-stands, not-applied, validity-parts}
 use Rattle.calls.proofs.request.call_refusal.Statement.{statement}
 use Rattle.calls.proofs.request.call_refusal.Tie as tie
 
 -- 1 to 4
 abbrev four : ℕ → ℕ → ℕ → ℕ → List Check
 four h n t m = length-checks h n ++ list-checks t m
+
+four-numbered : (h n t m : ℕ) → Numbered (four h n t m)
+four-numbered h n t m = (omega arith, (omega arith, (omega arith, (omega arith, tt))))
 
 tenant-requires : tie.Need-tenant-requires
 tenant-requires c κs = search needs
@@ -29,8 +32,10 @@ returns c =
     let a = x .before .before .args in
     let t = x .before .tenant .result in
     let asked = x .first-of-four .ensures in
+    let early = four (a .height) (a .length) t (a .entries) in
+    let late = size-checks (a .height) (callOf (a .call) 0) in
     rw (validity-parts (a .height) (a .call) (a .entries), ← x .before .tenant .ensures)
-    (asked ∙ sym (first-stands (four (a .height) (a .length) t (a .entries)) (size-checks (a .height) (callOf (a .call) 0)) (λ z. c .if1 .taken (asked ∙ z))))
+    (asked ∙ sym (first-stands early late (λ z. c .if1 .taken (asked ∙ z))))
 
 size-refusal-requires : tie.Need-size-refusal-requires
 size-refusal-requires c κs =
@@ -44,9 +49,12 @@ returns-2 c =
     let x = c .before .before in
     let a = x .before .before .args in
     let t = x .before .tenant .result in
+    let early = four (a .height) (a .length) t (a .entries) in
+    let late = size-checks (a .height) (callOf (a .call) 0) in
+    let none-early = sym (x .first-of-four .ensures) ∙ c .before .if1 .left in
     rw (validity-parts (a .height) (a .call) (a .entries), ← x .before .tenant .ensures)
     (c .size-refusal .ensures
-    ∙ sym (first-after-none (four (a .height) (a .length) t (a .entries)) (size-checks (a .height) (callOf (a .call) 0)) (omega arith, (omega arith, (omega arith, (omega arith, tt)))) (sym (x .first-of-four .ensures) ∙ c .before .if1 .left)))
+    ∙ sym (first-after-none early late (four-numbered (a .height) (a .length) t (a .entries)) none-early))
 
 pub call-refusal-spec : {M : Type 1} → statement M
 call-refusal-spec =

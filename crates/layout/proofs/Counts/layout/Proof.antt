@@ -60,7 +60,8 @@ mark-in-requires c κs =
     let i = p .before .before in
     let m = p .placed .result in
     let at-most : m .down ≤ i .before .loop .l = omega arith in
-    let fits = rw (← p .placed .ensures .0, start-state m) at (lone-fits (long i) (i .loop-test .taken) (i .before .loop .inv .0) (m .down) at-most) in
+    let lone = lone-fits (long i) (i .loop-test .taken) (i .before .loop .inv .0) (m .down) at-most in
+    let fits = rw (← p .placed .ensures .0, start-state m) at lone in
     (omega arith, omega arith, i .before .loop .inv .0 .lones-long)
 
 risen-requires : tie.Need-risen-requires Inv-loop μ-loop

@@ -54,7 +54,8 @@ loop-less c = search needs
 loop-again : tie.Need-loop-again Inv-loop μ-loop
 loop-again c =
     let at = c .before .before .loop in
-    (omega arith, rw (add-one (at .tenant)) (sym (owners-step (at .owner) (now (c .before .before .before .args .table)) (at .tenant) (omega arith)) ∙ at .inv .1))
+    let table = now (c .before .before .before .args .table) in
+    (omega arith, rw (add-one (at .tenant)) (sym (owners-step (at .owner) table (at .tenant) (omega arith)) ∙ at .inv .1))
 
 returns : tie.Need-returns Inv-loop μ-loop
 returns c =

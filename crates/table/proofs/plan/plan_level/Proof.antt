@@ -78,8 +78,9 @@ node-on-requires c κs =
 
 returns-2 : tie.Need-returns-2
 returns-2 c =
-    level-done (c .before .before .before) _
-    (rw (eq-eqb _ _ (c .before .if1 .left), ← c .before .before .before .before .before .before .before .before .power .ensures) (c .node-on .ensures))
+    let past-shift = c .before .before .before in
+    let base = past-shift .before .before .before .before .before .power .ensures in
+    level-done past-shift _ (rw (eq-eqb _ _ (c .before .if1 .left), ← base) (c .node-on .ensures))
 
 pub plan-level-spec : {M : Type 1} → statement M
 plan-level-spec =

@@ -11,7 +11,8 @@ same-requires c κs = search needs
 returns : tie.Need-returns
 returns c =
     let a = c .before .before .args in
-    same-row-unshifted (a .base) (a .old) (a .new) (a .owners .now) (a .plan) (c .before .before .pre .1 .1) (sym (c .before .same .ensures) ∙ c .if1 .taken)
+    same-row-unshifted (a .base) (a .old) (a .new) (a .owners .now) (a .plan) (c .before .before .pre .1 .1)
+    (sym (c .before .same .ensures) ∙ c .if1 .taken)
 
 shift-rows-requires : tie.Need-shift-rows-requires
 shift-rows-requires c κs = search needs

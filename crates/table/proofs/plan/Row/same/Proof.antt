@@ -16,13 +16,16 @@ returns-2 c = simp (eq-eqb _ _ (c .before .before .before .if1 .left), ne-eqb _ 
 
 returns-3 : tie.Need-returns-3
 returns-3 c =
-    simp (eq-eqb _ _ (c .before .before .before .before .before .before .if1 .left), eq-eqb _ _ (c .before .before .before .if2 .left), ne-eqb _ _ (c .if3 .taken))
+    let past-starts = c .before .before .before in
+    let at-starts = past-starts .before .before .before in
+    simp (eq-eqb _ _ (at-starts .if1 .left), eq-eqb _ _ (past-starts .if2 .left), ne-eqb _ _ (c .if3 .taken))
 
 returns-4 : tie.Need-returns-4
 returns-4 c =
     let past-runs = c .before .before in
     let past-starts = past-runs .before .before .before in
-    last-decides _ _ _ _ (eq-eqb _ _ (past-starts .before .before .before .if1 .left)) (eq-eqb _ _ (past-starts .if2 .left)) (eq-eqb _ _ (past-runs .if3 .left))
+    let at-starts = past-starts .before .before .before in
+    last-decides _ _ _ _ (eq-eqb _ _ (at-starts .if1 .left)) (eq-eqb _ _ (past-starts .if2 .left)) (eq-eqb _ _ (past-runs .if3 .left))
 
 pub same-spec : {M : Type 1} → statement M
 same-spec = tie.close (tie.spec returns returns-2 returns-3 returns-4)
