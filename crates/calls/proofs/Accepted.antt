@@ -16,6 +16,7 @@ use Rattle.layout.proofs.Theorems.{layout-has-counts}
 use Rattle.table.specs.Table.{nodeAt, occupied, countsOf, in-order?, InOrder}
 use Rattle.table.specs.Pairing.{moved, movesOf}
 use Rattle.table.specs.Paired.{MoversPaired, MoversFill, NewcomerPaired, ListInOrder}
+use Rattle.table.specs.Plan.{no-move}
 use Rattle.table.proofs.Occupied.{occupied-within}
 use Rattle.table.proofs.Order.{in-order-iff, in-order-counts}
 use Rattle.table.proofs.Moved.{Movable, moved-nothing, moved-level, moved-holds, moved-stays}
@@ -26,7 +27,7 @@ use Rattle.calls.specs.Call.{Call, grant-level, grant-pages, release, te
 use Rattle.calls.specs.Step.{Outcome, first, check, validity, holdings, checks, granted, released, refused, step}
 use Rattle.calls.specs.History.{Book}
 use Rattle.calls.specs.Demand.{Agrees, Asks, by-level, by-pages, Releases}
-use Rattle.calls.specs.Accepted.{Shifted, nobody, Settled, AfterGrant, AfterRelease, Demand2}
+use Rattle.calls.specs.Accepted.{Shifted, Settled, AfterGrant, AfterRelease, Demand2}
 use Rattle.calls.proofs.Checks.{Sound, answer-is-first, validity-numbered, not-applied, rest-zero, height-passed, length-passed}
 use Rattle.calls.proofs.Room.{count-one-more}
 use Rattle.calls.proofs.Given.{above-zero}
@@ -90,10 +91,10 @@ module _ {h : ℕ} {N : Nodes} {T₁ : List ℕ} (M : Movable h N T₁) (T : Lis
     still-holds = λ u ne p. rw (after u ne) (moved-holds M u (rw (before u ne) p));
     still-nothing = λ u ne z. after u ne ∙ moved-nothing M u (before u ne ∙ z);
     movers-paired = subst (λ (A : Nodes). MoversPaired h A t T (o .table)) (sym (fun-ext occupies)) (movers-paired M t T (o .table) out before after);
-    listed = λ i q. rw moves (listed-shifted _ (moves-in-list M nobody i (rw (← moves) q)));
-    all-listed = λ u ne p d. rw moves (move-of M nobody u (rw (before u ne) p) (λ e. d (after u ne ∙ e ∙ before u ne)));
-    once = λ i j p q e. one-move-each M nobody i j (rw (← moves) p) (rw (← moves) q) (rw moves at e);
-    list-in-order = subst (ListInOrder h nobody) (sym moves) (moves-in-order M nobody);
+    listed = λ i q. rw moves (listed-shifted _ (moves-in-list M no-move i (rw (← moves) q)));
+    all-listed = λ u ne p d. rw moves (move-of M no-move u (rw (before u ne) p) (λ e. d (after u ne ∙ e ∙ before u ne)));
+    once = λ i j p q e. one-move-each M no-move i j (rw (← moves) p) (rw (← moves) q) (rw moves at e);
+    list-in-order = subst (ListInOrder h no-move) (sym moves) (moves-in-order M no-move);
   }
 
 module _ (h : ℕ) (T : List ℕ) (c : Call) (e : step h T c .answer ≡ 0) where

@@ -7,12 +7,12 @@ use lib.ListN.{length, getD, take, drop, set, length-take, drop-of-length-le}
 use lib.Seq.{drop-cons}
 use Rattle.table.specs.Pairing.{written}
 use Rattle.table.specs.declared.Move.{Move}
-use Rattle.calls.specs.Accepted.{nobody}
+use Rattle.table.specs.Plan.{no-move}
 
 pub written-step : (T : List ℕ) (ms : List Move) (i : ℕ) → i < length ms
-    → written T (drop i ms) ≡ written (set T (getD ms i nobody .tenant) (getD ms i nobody .to)) (drop (suc i) ms)
+    → written T (drop i ms) ≡ written (set T (getD ms i no-move .tenant) (getD ms i no-move .to)) (drop (suc i) ms)
 unfolding written
-written-step T ms i q = ap (written T) (drop-cons ms i nobody q)
+written-step T ms i q = ap (written T) (drop-cons ms i no-move q)
 
 pub written-end : (T : List ℕ) (ms : List Move) (i : ℕ) → length ms ≤ i → written T (drop i ms) ≡ T
 unfolding written

@@ -29,7 +29,7 @@ use Rattle.table.proofs.Written.{written-is-moved}
 use Rattle.table.proofs.PlanOf.{moves-in-plan-of, count-in-plan-of}
 use Rattle.table.proofs.PlanLaws.{Replan, plannable, plan-of-table, stored-owners, grant-replan, release-replan}
 use Rattle.calls.specs.Step.{granted, released}
-use Rattle.calls.specs.Accepted.{nobody}
+use Rattle.table.specs.Plan.{no-move}
 use Rattle.calls.specs.Value.{Gives, TenantsIn}
 use Rattle.calls.specs.declared.Answer.the-variants.{Done}
 use Rattle.calls.specs.Changes.{GrantPlannable, GrantPlanned, ReleasePlannable, ReleasePlanned}
@@ -58,8 +58,8 @@ tenants-of-plan {h} {cs} {ds} {gone} {T} {owners} p x r planned =
     record {
       few = rw count (p .few);
       tenants = λ i i<n.
-          rw (← (getD-take (r .plan .n) (r .plan .moves) i nobody i<n), moves-in-plan-of (r .plan) moves q)
-          (moves-in-list (p .movable) nobody i (rw count at i<n) .in-table);
+          rw (← (getD-take (r .plan .n) (r .plan .moves) i no-move i<n), moves-in-plan-of (r .plan) moves q)
+          (moves-in-list (p .movable) no-move i (rw count at i<n) .in-table);
     }
 
 module _ (h : ℕ) (T : List ℕ) (h≤12 : h ≤ 12) (entries : length T ≡ 4096) (order : InOrder h T) where

@@ -9,6 +9,7 @@ use Rattle.tree.specs.Node.{level}
 use Rattle.tree.specs.Held.{Within, Legal, Safe, sizes, one-if}
 use Rattle.table.specs.Table.{nodeAt, occupied}
 use Rattle.table.specs.Paired.{MoversPaired, MoversFill, NewcomerPaired, ListInOrder}
+use Rattle.table.specs.Plan.{no-move}
 use Rattle.table.specs.declared.Move.{Move}
 use Rattle.calls.specs.Call.{Call, tenantOf}
 use Rattle.calls.specs.Step.{Outcome, step}
@@ -22,10 +23,6 @@ pub record Shifted (t : ℕ) (T T′ : List ℕ) (m : Move) : Type 0 where
   pub had-one : 0 < m .from
   pub has-one : 0 < m .to
   pub differ : ¬ (m .from ≡ m .to)
-
--- what stands for a move past the end of a list
-abbrev pub nobody : Move
-nobody = record { tenant = 0; from = 0; to = 0 }
 
 -- what both kinds of call do to the tenants but their own, t
 pub record Settled (h t : ℕ) (T : List ℕ) (o : Outcome) : Type 0 where
@@ -42,13 +39,13 @@ pub record Settled (h t : ℕ) (T : List ℕ) (o : Outcome) : Type 0 where
   -- the movers take nodes of the new set that nobody stays on, and on each level they keep their order
   pub movers-paired : MoversPaired h (occupied (o .table)) t T (o .table)
   -- the moves are exactly those tenants whose node differs, each once
-  pub listed : (i : ℕ) → i < length (o .moves) → Shifted t T (o .table) (getD (o .moves) i nobody)
+  pub listed : (i : ℕ) → i < length (o .moves) → Shifted t T (o .table) (getD (o .moves) i no-move)
   pub all-listed : (u : ℕ) → ¬ (u ≡ t) → 0 < nodeAt T u → ¬ (nodeAt (o .table) u ≡ nodeAt T u)
-      → (i : ℕ) × (i < length (o .moves)) × (getD (o .moves) i nobody .tenant ≡ u)
+      → (i : ℕ) × (i < length (o .moves)) × (getD (o .moves) i no-move .tenant ≡ u)
   pub once : (i j : ℕ) → i < length (o .moves) → j < length (o .moves)
-      → getD (o .moves) i nobody .tenant ≡ getD (o .moves) j nobody .tenant → i ≡ j
+      → getD (o .moves) i no-move .tenant ≡ getD (o .moves) j no-move .tenant → i ≡ j
   -- the list goes by level from 0 up, then by old node left to right
-  pub list-in-order : ListInOrder h nobody (o .moves)
+  pub list-in-order : ListInOrder h no-move (o .moves)
 
 -- a grant at level l: one more block there, and the newcomer has it and the answer names it
 pub record AfterGrant (h : ℕ) (T : List ℕ) (t l : ℕ) (o : Outcome) : Type 0 where

@@ -6,8 +6,7 @@ use lib.ListN.{length, getD}
 use Rattle.table.specs.declared.plan.Plan.{Plan}
 use Rattle.calls.specs.Call.{Call, grant-level, grant-pages, release}
 use Rattle.calls.specs.Step.{Outcome}
-use Rattle.calls.specs.Accepted.{nobody}
-use Rattle.table.specs.Plan.{movesIn, planOf}
+use Rattle.table.specs.Plan.{movesIn, no-move, planOf}
 use Rattle.calls.specs.declared.Answer.{Answer}
 use Rattle.calls.specs.declared.Call.{Call as Arguments}
 use Rattle.calls.specs.declared.Call.the-variants.{GrantLevel, GrantPages, Release}
@@ -52,4 +51,4 @@ valueOf r T = record { answer = numberOf (r .answer); node = nodeIn (r .answer);
 -- a plan of at most four moves, of tenants that the table has
 pub record TenantsIn (T : List ℕ) (p : Plan) : Type 0 where
   pub few : p .n ≤ 4
-  pub tenants : (i : ℕ) → i < p .n → getD (p .moves) i nobody .tenant < length T
+  pub tenants : (i : ℕ) → i < p .n → getD (p .moves) i no-move .tenant < length T

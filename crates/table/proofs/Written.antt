@@ -13,6 +13,7 @@ use lib.Seq.{getD-set-same, getD-set-other, ext-getD}
 use Rattle.tree.specs.Held.{Nodes}
 use Rattle.table.specs.Table.{nodeAt}
 use Rattle.table.specs.Pairing.{moved, movesOf, written}
+use Rattle.table.specs.Plan.{no-move}
 use Rattle.table.specs.declared.Move.{Move}
 use Rattle.table.proofs.Distinct.{Distinct, at-place}
 use Rattle.table.proofs.Moved.{Movable, moved-length, moved-nothing}
@@ -58,16 +59,13 @@ module _ {h : ℕ} {N : Nodes} {T : List ℕ} (M : Movable h N T) where
   stays-put : (t : ℕ) → ¬ In t (tenants (movesOf h N T)) → nodeAt (moved h N T) t ≡ nodeAt T t
   stays-put t out = go (ℕ-discrete (nodeAt (moved h N T) t) (nodeAt T t)) (eq-zero-or-pos (nodeAt T t))
     where
-      nobody : Move
-      nobody = record { tenant = 0; from = 0; to = 0 }
-
-      listed : (i : ℕ) × (i < length (movesOf h N T)) × (getD (movesOf h N T) i nobody .tenant ≡ t) → In t (tenants (movesOf h N T))
-      listed (i, q, e) = rw e at (in-map (λ (m : Move). m .tenant) (at-place nobody (movesOf h N T) i q))
+      listed : (i : ℕ) × (i < length (movesOf h N T)) × (getD (movesOf h N T) i no-move .tenant ≡ t) → In t (tenants (movesOf h N T))
+      listed (i, q, e) = rw e at (in-map (λ (m : Move). m .tenant) (at-place no-move (movesOf h N T) i q))
 
       go : Dec (nodeAt (moved h N T) t ≡ nodeAt T t) → (nodeAt T t ≡ 0) ⊎ (0 < nodeAt T t) → nodeAt (moved h N T) t ≡ nodeAt T t
       go (yes e) d = e
       go (no ne) (inl z) = moved-nothing M t z ∙ sym z
-      go (no ne) (inr p) = absurd (out (listed (move-of M nobody t p ne)))
+      go (no ne) (inr p) = absurd (out (listed (move-of M no-move t p ne)))
 
   pub written-is-moved : written T (movesOf h N T) ≡ moved h N T
   written-is-moved =

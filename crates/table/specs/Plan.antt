@@ -48,7 +48,7 @@ betterOf p a c best = cond (leb a c && ltb c best && p c) c best
 abbrev pub movesIn : Plan → List Move
 movesIn p = take (p .n) (p .moves)
 
--- what an entry holds that no move stands in
+-- what an entry holds that no move stands in, and what stands for a move past the end of a list
 abbrev pub no-move : Move
 no-move = record { tenant = 0; from = 0; to = 0 }
 

@@ -8,7 +8,7 @@ use borrow.Author.Needs.{needs}
 use lib.ListN.{length, take, drop, getD, length-set}
 use lib.Seq.{getD-take}
 use Rattle.table.specs.Pairing.{written}
-use Rattle.calls.specs.Accepted.{nobody}
+use Rattle.table.specs.Plan.{no-move}
 use Rattle.table.proofs.Arrays.{length-of-mapped}
 use Rattle.calls.proofs.Carried.{written-step, written-end, first-n}
 use Rattle.calls.proofs.carry.carry_out.Statement.{statement}
@@ -60,9 +60,9 @@ loop-again c =
     let i = at-loop .loop .i in
     let long : _≡_ {A = ℕ} (length (start .args .plan .moves)) 4 = search length-of-mapped in
     let q : i < length (take n ms) = omega (arith, first-n n ms (omega (arith, start .pre .few))) in
-    let m = getD ms i nobody in (
+    let m = getD ms i no-move in (
       omega arith,
-      rw (add-one, ← getD-take n ms i nobody (omega arith)) (sym (written-step (at-loop .loop .table) (take n ms) i q) ∙ at-loop .loop .inv .1),
+      rw (add-one, ← getD-take n ms i no-move (omega arith)) (sym (written-step (at-loop .loop .table) (take n ms) i q) ∙ at-loop .loop .inv .1),
       length-set (at-loop .loop .table) (m .tenant) (m .to) ∙ at-loop .loop .inv .2,
     )
 
