@@ -1,17 +1,16 @@
 -- What every history keeps up: the table is in order, and the book agrees with it tenant by tenant. And what follows for one box from that.
-use mathlib.Core.Path.{_≡_, refl, sym, ap, ap₂, _∙_}
-use mathlib.Core.Bool.{Bool, true, false, cond, _&&_}
+use mathlib.Core.Path.{_≡_, sym, ap, _∙_}
+use mathlib.Core.Bool.{_&&_}
 use mathlib.Core.List.{List}
-use mathlib.Core.Logic.{_⊎_, inl, inr, _↔_}
 use mathlib.Core.Option.{Option, some, none}
-use Prim.Native.Nat.{ℕ, zero, suc, _+_, _^_, _≤_, _<_}
+use Prim.Native.Nat.{ℕ, _+_, _^_, _≤_, _<_}
 use native.Mathlib.Omega.{arith}
-use borrow.Author.Tests.{ltb-true, ltb-false, lt-ltb, le-ltb, eq-eqb}
+use borrow.Author.Tests.{lt-ltb}
 use lib.Dec.{eqb, ltb}
 use lib.ListN.{length, getD}
 use Rattle.tree.specs.Node.{level}
-use Rattle.tree.specs.Held.{Nodes, Within, Legal, Safe, count, one-if, sizes}
-use Rattle.tree.proofs.Sum.{sum-cong, count-as-sum}
+use Rattle.tree.specs.Held.{Nodes, Within, Legal, Safe, one-if, sizes}
+use Rattle.tree.proofs.Sum.{count-cong}
 use Rattle.layout.specs.Layout.{pages}
 use Rattle.layout.specs.Set.{layoutSet}
 use Rattle.layout.specs.Change.{oneMore}
@@ -19,22 +18,17 @@ use Rattle.layout.proofs.Theorems.{layout-in-tree, layout-is-legal, layout-has-
 use Rattle.table.specs.Table.{nodeAt, occupied, InOrder, tenantsAt, countsOf}
 use Rattle.table.proofs.Tally.{tally-by-tenants}
 use Rattle.table.proofs.Occupied.{occupied-within}
-use Rattle.table.proofs.Order.{counts-length, tenants-are-sizes, in-order-counts, in-order-fits, in-order-is-layout, in-order-iff}
-use Rattle.calls.specs.Call.{Call, grant-level, grant-pages, release, tenantOf}
-use Rattle.calls.specs.Step.{first, validity, holdings, grant-holdings, step}
+use Rattle.table.proofs.Order.{counts-length, tenants-are-sizes, in-order-counts, in-order-is-layout, in-order-iff}
 use Rattle.calls.specs.History.{Book, at-level, held}
-use Rattle.calls.specs.Demand.{Agrees, Asks, by-level, by-pages, Releases, releases, withOne, NoPlacement}
+use Rattle.calls.specs.Demand.{Agrees, withOne, NoPlacement}
 use Rattle.calls.proofs.Room.{pages-one-more, count-one-more}
-use Rattle.calls.proofs.Checks.{Sound, answer-valid}
+use Rattle.calls.proofs.Checks.{Sound}
 
 pub record Kept (h : ℕ) (T : List ℕ) (B : Book) : Type 0 where
   pub height : h ≤ 12
   pub entries : length T ≡ 4096
   pub in-order : InOrder h T
   pub agrees : (t : ℕ) → Agrees h (B t) (nodeAt T t)
-
-pub count-cong : (n : ℕ) (p q : ℕ → Bool) → ((k : ℕ) → k < n → p k ≡ q k) → count n p ≡ count n q
-count-cong n p q e = count-as-sum n p ∙ sum-cong n (λ k r. ap one-if (e k r)) ∙ sym (count-as-sum n q)
 
 -- the book and the table count the same tenant at a level
 agrees-at-level : (h l : ℕ) (e : Option ℕ) (n : ℕ) → Agrees h e n → at-level e l ≡ (ltb 0 n && eqb (level h n) l)

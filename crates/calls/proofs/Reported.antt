@@ -12,7 +12,7 @@ use borrow.Author.Tests.{eq-eqb, ne-eqb, lt-ltb}
 use lib.Dec.{eqb, ltb}
 use lib.ListN.{length, set, length-set}
 use Rattle.tree.specs.Held.{Nodes}
-use Rattle.tree.proofs.Sum.{count-of-none}
+use Rattle.tree.proofs.Sum.{count-cong, count-of-none}
 use Rattle.tree.proofs.Count.{passes-first, fails-second, passes-only-first}
 use Rattle.layout.specs.Set.{layoutSet}
 use Rattle.layout.specs.Change.{oneMore, mostByGrant, mostByRelease}
@@ -26,7 +26,6 @@ use Rattle.table.proofs.Moved.{Movable, moved-holds}
 use Rattle.table.proofs.Moves.{changes, moves-counted, moves-by-tenant}
 use Rattle.calls.specs.Demand.{changed}
 use Rattle.calls.proofs.Struck.{node-after-set, node-beside-set}
-use Rattle.calls.proofs.Kept.{count-cong}
 
 -- The shared case: T₁ is T, or T with t's entry struck out; T′ is T₁ moved into N, but for t's entry.
 module _ {h : ℕ} {N : Nodes} {T₁ : List ℕ} (M : Movable h N T₁) (T T′ : List ℕ) (t : ℕ) (entries : length T₁ ≡ 4096)

@@ -1,5 +1,5 @@
 -- A layout has as many blocks of each level as the counts say.
-use mathlib.Core.Path.{_≡_, refl, sym, ap, ap₂, _∙_}
+use mathlib.Core.Path.{_≡_, refl, sym, ap, _∙_}
 use mathlib.Core.Bool.{Bool, true, false, _||_}
 use mathlib.Core.List.{List, [], _∷_, _++_}
 use Prim.Native.Nat.{ℕ, zero, suc, _+_, _*_, _^_, _≤_, _<_}
@@ -13,6 +13,7 @@ use borrow.Author.Tests.{eq-eqb, ne-eqb}
 use Rattle.tree.specs.Held.{one-if, count}
 use Rattle.tree.specs.Block.{Block, past, bsizes}
 use Rattle.tree.proofs.Align.{first<past}
+use Rattle.tree.proofs.Sum.{count-cong}
 use Rattle.layout.specs.Layout.{State, full, lone, block, start, running, place, rise, run, layoutFrom, layout}
 use Rattle.layout.specs.Layout.{same-block, among, pages}
 use Rattle.layout.proofs.Members.{Member, here, later, among-member, member-among, same-block-eq, same-level, same-index, same-first}
@@ -96,11 +97,6 @@ unfolding count
 count-none zero = refl
 count-none (suc n) = omega (arith, count-none n)
 
-count-agree : (n : ℕ) (f g : ℕ → Bool) → ((k : ℕ) → k < n → g k ≡ f k) → count n g ≡ count n f
-unfolding count
-count-agree zero f g r = refl
-count-agree (suc n) f g r = ap₂ _+_ (ap one-if (r n (omega arith))) (count-agree n f g (λ k h. r k (omega arith)))
-
 -- g is f and i besides
 count-one-more : (n i : ℕ) (f g : ℕ → Bool) → i < n → f i ≡ false → g i ≡ true → ((k : ℕ) → ¬ (k ≡ i) → g k ≡ f k)
     → count n g ≡ suc (count n f)
@@ -110,7 +106,7 @@ count-one-more (suc n) i f g h p q r = go (λ h. count-one-more n i f g h p q r)
   where
     go : (i < n → count n g ≡ suc (count n f)) → Dec (n ≡ i) → one-if (g n) + count n g ≡ suc (one-if (f n) + count n f)
     go below (yes e) =
-        let same = count-agree n f g (λ k h. r k (omega arith)) in
+        let same = count-cong n g f (λ k h. r k (omega arith)) in
         rw (ap f e ∙ p, ap g e ∙ q) (omega arith)
     go below (no d) = rw (r n d) (omega (arith, below (omega arith)))
 
@@ -138,7 +134,7 @@ module _ (n m : ℕ) (b : Block) (bs : List Block) where
 
   count-cons-other : ¬ (m ≡ b .level) → count n (λ k. among (b ∷ bs) (block m k)) ≡ count n (λ k. among bs (block m k))
   count-cons-other d =
-      count-agree n (λ k. among bs (block m k)) (λ k. among (b ∷ bs) (block m k)) (λ k h. among-other b bs (block m k) (λ i. d (sym (same-level i))))
+      count-cong n (λ k. among (b ∷ bs) (block m k)) (λ k. among bs (block m k)) (λ k h. among-other b bs (block m k) (λ i. d (sym (same-level i))))
 
 count-chain : (n m : ℕ) {p : ℕ} {bs : List Block} → Chain p bs → ((b : Block) → Member b bs → b .index < n)
     → count n (λ k. among bs (block m k)) ≡ ofLevel m bs

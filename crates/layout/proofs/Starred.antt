@@ -1,14 +1,13 @@
 -- Each starred set of document 01 is legal and safe with its counts, and is the layout of them.
 use mathlib.Core.Path.{_≡_, refl, sym, ap, ap₂, _∙_, subst, fun-ext}
-use mathlib.Core.Bool.{Bool, true, false, _&&_, _||_, false≢true}
+use mathlib.Core.Bool.{Bool, true, false, _&&_, _||_, false≢true, or-true}
 use mathlib.Core.List.{List, [], _∷_, map}
-use Prim.Native.Nat.{ℕ, zero, suc, _^_, _≤_}
+use Prim.Native.Nat.{ℕ, _^_, _≤_}
 use borrow.Author.Tests.{eqb-true, eq-eqb, leb-true}
-use lib.Dec.{eqb, leb, T}
+use lib.Dec.{eqb, leb}
 use lib.ListN.{getD}
-use Rattle.tree.specs.Node.{InTree}
 use Rattle.tree.specs.Held.{Nodes, Within, Legal, Safe, sizes}
-use Rattle.tree.specs.Block.{Block, node, past, blockOf, nodesOf}
+use Rattle.tree.specs.Block.{Block, node, blockOf}
 use Rattle.tree.proofs.Bridge.{SameSet, held-node, held-block}
 use Rattle.tree.proofs.Count.{equal-of-both-ways}
 use Rattle.tree.proofs.Coordinates.{node-of-block}
@@ -38,10 +37,6 @@ member-listed h {b = b} (here {x = a} {xs = bs} e) =
     ap (λ (t : Bool). t || listed (map (node h) bs) (node h b)) (eq-eqb (node h a) (node h b) (ap (node h) (sym e)))
 member-listed h {b = b} (later {x = a} {xs = bs} m) =
     ap (λ (t : Bool). eqb (node h a) (node h b) || t) (member-listed h m) ∙ or-true (eqb (node h a) (node h b))
-  where
-    or-true : (t : Bool) → t || true ≡ true
-    or-true true = refl
-    or-true false = refl
 
 listed-member : (h : ℕ) (bs : List Block) (n : ℕ) → listed (map (node h) bs) n ≡ true → (b : Block) × Member b bs × (node h b ≡ n)
 listed-member h [] n e = absurd (false≢true e)

@@ -1,4 +1,3 @@
-pub mod Arrays
 pub mod Decimal
 pub mod Texts
 pub mod Fields

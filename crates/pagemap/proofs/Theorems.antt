@@ -16,7 +16,7 @@ use Rattle.tree.specs.Pages.{pagesOf}
 use Rattle.tree.proofs.Bridge.{legal-blocks}
 use Rattle.tree.proofs.Sets.{set-of-blocks}
 use Rattle.tree.proofs.Sizes.{sizes-of-blocks, sizes-above}
-use Rattle.tree.proofs.Sum.{sum-cong, sum-stops, one-if-le-one, count-as-sum}
+use Rattle.tree.proofs.Sum.{sum-cong, sum-stops, one-if-le-one, count-as-sum, count-cong}
 use Rattle.tree.proofs.Room.{pages-covered}
 use Rattle.layout.specs.Layout.{pages}
 use Rattle.layout.proofs.Bounds.{power-le-4096}
@@ -25,7 +25,6 @@ use Rattle.layout.proofs.Sizes.{false-unless-true}
 use Rattle.table.specs.Table.{occupied, InOrder, countsOf}
 use Rattle.table.proofs.Occupied.{occupied-within}
 use Rattle.table.proofs.Order.{in-order-counts}
-use Rattle.calls.proofs.Kept.{count-cong}
 use Rattle.pagemap.specs.Map.{bitOf, covered, HeldOver, pageMap}
 use Rattle.pagemap.specs.Count.{setBits, counted}
 use Rattle.pagemap.proofs.Covered.{covered-iff, covered-in-reserve}

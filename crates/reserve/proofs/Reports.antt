@@ -119,7 +119,8 @@ module _ (h : ℕ) (c : Call) (called : Called) {image nodes after : List ℕ} {
   )
 
   -- what is reported of the array is what is reported of the outcome
-  pub call-reported : {list : List ℕ} {r : Outcome} {image′ list′ : List ℕ} → Reported (valueOf called (after ++ drop n nodes)) image list r image′ list′
+  pub call-reported : {list : List ℕ} {r : Outcome} {image′ list′ : List ℕ}
+      → Reported (valueOf called (after ++ drop n nodes)) image list r image′ list′
       → Reported (step h (tableOf image) c) image list r image′ list′
   call-reported p =
       same-report (valueOf called (after ++ drop n nodes)) (step h (tableOf image) c) answer-met (ap (λ (o : Result). o .node) met-on-table)
@@ -127,7 +128,8 @@ module _ (h : ℕ) (c : Call) (called : Called) {image nodes after : List ℕ} {
 
 -- an opening that was asked of the front of the array
 module _ (h : ℕ) (a : Answer) {image nodes after : List ℕ} {n k : ℕ} (d : Decoded image nodes n) (kept : length after ≡ length (take n nodes))
-    (given : a ≡ answerOf (open-reserve h (take n nodes) .answer) 0) (cleared : after ≡ open-reserve h (take n nodes) .table) (named : k ≡ numberOf a) where
+    (given : a ≡ answerOf (open-reserve h (take n nodes) .answer) 0)
+    (cleared : after ≡ open-reserve h (take n nodes) .table) (named : k ≡ numberOf a) where
   open-on-table : answered a after ≡ open-reserve h (tableOf image)
   open-on-table = value-of-opening h (take n nodes) a after given cleared ∙ ap (open-reserve h) (d .front)
 

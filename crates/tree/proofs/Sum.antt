@@ -64,6 +64,9 @@ unfolding sum count
 count-as-sum zero p = refl
 count-as-sum (suc n) p = ap (λ x. one-if (p n) + x) (count-as-sum n p)
 
+pub count-cong : (n : ℕ) (p q : ℕ → Bool) → ((k : ℕ) → k < n → p k ≡ q k) → count n p ≡ count n q
+count-cong n p q e = count-as-sum n p ∙ sum-cong n (λ k r. ap one-if (e k r)) ∙ sym (count-as-sum n q)
+
 pub one-if-le-one : (b : Bool) → one-if b ≤ 1
 one-if-le-one true = omega arith
 one-if-le-one false = omega arith

@@ -5,7 +5,7 @@ use Prim.Native.Nat.{ℕ}
 use lib.ListN.{length}
 use Rattle.table.specs.Plan.{movesIn}
 use Rattle.calls.specs.Value.{numberOf, valueOf}
-use Rattle.calls.proofs.Carried.{length-of-mapped}
+use Rattle.table.proofs.Arrays.{length-of-mapped}
 use Rattle.reserve.proofs.Counts.{count-some}
 use Rattle.reserve.proofs.Reports.{report-refused, report-done}
 use borrow.Author.Needs.{needs}
@@ -29,10 +29,11 @@ counted start =
 
 returns : tie.Need-returns
 returns c =
-    let a = c .before .before .before .before .before .before .before .args in
+    let start = c .before .before .before .before .before .before .before in
+    let a = start .args in
     let numbered = c .before .before .before .before .number in
-    report-refused (valueOf (a .called) (a .nodes .now)) (a .table .now) (a .moves .now) _ (numbered .ensures) (c .before .before .before .node .ensures)
-    (counted (c .before .before .before .before .before .before .before)) (λ z. omega (arith, c .if1 .taken, numbered .ensures ∙ z))
+    report-refused (valueOf (a .called) (a .nodes .now)) (a .table .now) (a .moves .now) _ (numbered .ensures)
+    (c .before .before .before .node .ensures) (counted start) (λ z. omega (arith, c .if1 .taken, numbered .ensures ∙ z))
 
 -- past the test the answer is 0
 accepted : (x : tie.Else1) → numberOf (x .before .before .before .before .before .before .before .args .called .answer) ≡ 0

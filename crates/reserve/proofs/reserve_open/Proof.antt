@@ -1,5 +1,6 @@
 -- `reserve::reserve_open` meets its contract, by what `calls::open` does to the table of the image.
 use mathlib.Core.Path.{_≡_, sym, _∙_}
+use Prim.Native.Nat.{ℕ}
 use borrow.Author.Needs.{needs}
 use lib.ListN.{length, take}
 use Rattle.reserve.proofs.Reports.{front-count, open-answer, open-refused, open-finishes, open-done}
@@ -24,8 +25,12 @@ number-requires c κs = search needs
 same-length : tie.Need-same-length
 same-length c = search needs
 
+abbrev heightOf : tie.After-open → ℕ
+heightOf x = x .before .before .before .before .before .before .args .height
+
 -- the call leaves the part of the array as long as it was
-kept : (x : tie.After-open) → length (x .«open» .last .1 .0) ≡ length (take (x .before .before .decode .result) (x .before .before .decode .last .1 .0))
+kept : (x : tie.After-open)
+    → length (x .«open» .last .1 .0) ≡ length (take (x .before .before .decode .result) (x .before .before .decode .last .1 .0))
 kept x = search needs
 
 returns : tie.Need-returns
@@ -33,12 +38,18 @@ returns c =
     let x = c .before .before .before in
     let named = c .before .number .ensures in
     let d = x .before .before .decode .ensures in
-    (open-answer (x .before .before .before .before .before .before .args .height) (x .«open» .result) d (kept x) (x .«open» .ensures .0) (x .«open» .ensures .1) named, open-refused (x .before .before .before .before .before .before .args .height) (x .«open» .result) d (kept x) (x .«open» .ensures .0) (x .«open» .ensures .1) named (c .if1 .taken))
+    let o = x .«open» in (
+      open-answer (heightOf x) (o .result) d (kept x) (o .ensures .0) (o .ensures .1) named,
+      open-refused (heightOf x) (o .result) d (kept x) (o .ensures .0) (o .ensures .1) named (c .if1 .taken),
+    )
 
 encode-requires : tie.Need-encode-requires
 encode-requires c κs =
     let x = c .before .before .before .before .before in
-    open-finishes (x .before .before .before .before .before .before .args .height) (x .«open» .result) (x .before .before .decode .ensures) (kept x) (x .«open» .ensures .0) (x .«open» .ensures .1) (c .before .before .before .number .ensures) (c .before .before .if1 .left)
+    let named = c .before .before .before .number .ensures in
+    let d = x .before .before .decode .ensures in
+    let o = x .«open» in
+    open-finishes (heightOf x) (o .result) d (kept x) (o .ensures .0) (o .ensures .1) named (c .before .before .if1 .left)
 
 same-length-2 : tie.Need-same-length-2
 same-length-2 c = search needs
@@ -49,7 +60,10 @@ returns-2 c =
     let named = c .before .before .before .before .before .before .number .ensures in
     let zero = c .before .before .before .before .before .if1 .left in
     let d = x .before .before .decode .ensures in
-    (sym zero ∙ open-answer (x .before .before .before .before .before .before .args .height) (x .«open» .result) d (kept x) (x .«open» .ensures .0) (x .«open» .ensures .1) named, c .before .before .encode .ensures ∙ open-done (x .before .before .before .before .before .before .args .height) (x .«open» .result) d (kept x) (x .«open» .ensures .0) (x .«open» .ensures .1) named zero)
+    let o = x .«open» in (
+      sym zero ∙ open-answer (heightOf x) (o .result) d (kept x) (o .ensures .0) (o .ensures .1) named,
+      c .before .before .encode .ensures ∙ open-done (heightOf x) (o .result) d (kept x) (o .ensures .0) (o .ensures .1) named zero,
+    )
 
 pub reserve-open-spec : {M : Type 1} → statement M
 reserve-open-spec =

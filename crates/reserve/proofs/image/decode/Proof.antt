@@ -73,7 +73,11 @@ returns-2 c =
     let at-loop = c .before in
     let s = at-loop .before .before .before .args .image .now in
     let all : at-loop .loop .i ≡ 4096 = omega arith in
-    record { few = omega arith; front = decoded-all s (at-loop .loop .nodes) (omega arith) (rw all at (at-loop .loop .inv .1)); long = at-loop .loop .inv .2 }
+    record {
+      few = omega arith;
+      front = decoded-all s (at-loop .loop .nodes) (omega arith) (rw all at (at-loop .loop .inv .1));
+      long = at-loop .loop .inv .2;
+    }
 
 pub decode-spec : {M : Type 1} → statement M
 decode-spec =

@@ -61,7 +61,8 @@ returns c =
     let at-loop = c .before in
     let start = at-loop .before .before in
     let all : at-loop .loop .i ≡ 4096 = omega arith in
-    encoded-all (start .args .image .now) (start .args .nodes .now) (at-loop .loop .image) (rw all at (at-loop .loop .inv .1)) (start .pre .0) (start .pre .1)
+    encoded-all (start .args .image .now) (start .args .nodes .now) (at-loop .loop .image)
+    (rw all at (at-loop .loop .inv .1)) (start .pre .0) (start .pre .1)
 
 pub encode-spec : {M : Type 1} → statement M
 encode-spec =

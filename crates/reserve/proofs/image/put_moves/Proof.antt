@@ -4,13 +4,12 @@ use mathlib.Core.Path.{_≡_, refl, ap, _∙_}
 use mathlib.Core.List.{List, _++_}
 use Prim.Native.Nat.{ℕ, _+_, _*_, _-_, _≤_, _<_, zero-le}
 use native.Mathlib.Omega.{arith}
-use borrow.Author.Needs.{needs}
 use lib.ListN.{length, take, drop}
 use Rattle.table.specs.declared.Move.{Move}
-use Rattle.calls.proofs.Carried.{length-of-mapped}
+use Rattle.table.proofs.Arrays.{length-of-mapped, take-own-length}
 use Rattle.reserve.specs.Image.{imageOf, numbersOf, moveBytes}
 use Rattle.reserve.proofs.Images.{put-more}
-use Rattle.reserve.proofs.Counts.{count-some, take-own-length}
+use Rattle.reserve.proofs.Counts.{count-some}
 use Rattle.reserve.proofs.image.put_moves.Statement.{statement}
 use Rattle.reserve.proofs.image.put_moves.Tie as tie
 

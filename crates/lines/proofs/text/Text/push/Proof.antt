@@ -6,7 +6,7 @@ use native.Mathlib.Omega.{arith}
 use borrow.Author.Needs.{needs}
 use lib.ListN.{length}
 use lib.Seq.{take-suc-set, drop-set-lt}
-use Rattle.lines.proofs.Arrays.{length-of-mapped}
+use Rattle.table.proofs.Arrays.{length-of-mapped}
 use Rattle.lines.proofs.text.Text.push.Statement.{statement}
 use Rattle.lines.proofs.text.Text.push.Tie as tie
 

@@ -6,7 +6,7 @@ use native.Mathlib.Numerals.{add-one}
 use lib.ListN.{length, length-set}
 use lib.Seq.{paste, paste-zero, paste-suc}
 use denote.Ref.{now}
-use Rattle.lines.proofs.Arrays.{length-of-mapped}
+use Rattle.table.proofs.Arrays.{length-of-mapped}
 use Rattle.lines.proofs.text.Text.put.Statement.{statement}
 use Rattle.lines.proofs.text.Text.put.Tie as tie
 
