@@ -131,7 +131,7 @@ def sizes():
         "RESERVE_KIND_NONE": number("crates/reserve/specs/Records.antt", r"^readingOf at Read\.End = .*kind = (\d+);"),
         "RESERVE_MAX_HEIGHT": number(step, r"check 1 \(ltb (\d+) h\)"),
         "RESERVE_TENANTS": number(step, r"check 4 \(ltb (\d+) t\)") + 1,
-        "RESERVE_TABLE_BYTES": number("crates/reserve/specs/Image.antt", r"eqb \(length image\) (\d+)"),
+        "RESERVE_TABLE_BYTES": number("crates/image/specs/Image.antt", r"eqb \(length image\) (\d+)"),
         "RESERVE_MOVE_BYTES": move,
         "RESERVE_MOVES_BYTES": number(step, r"check 3 \(ltb m (\d+)\)") * move,
         "RESERVE_MAP_BYTES": number("crates/pagemap/specs/Draw.antt", r"check 15 \(ltb \(length m\) (\d+)\)"),

@@ -13,10 +13,10 @@ use Rattle.calls.specs.Demand.{SameFate, Boxes}
 use Rattle.calls.proofs.Kept.{sound}
 use Rattle.calls.proofs.Cases.{Case, by-grant, by-release, by-refusal, case}
 use Rattle.calls.proofs.Demand.{kept-by-history, demand-3}
-use Rattle.reserve.specs.Image.{imageOf, tableOf}
+use Rattle.image.specs.Image.{imageOf, tableOf}
 use Rattle.reserve.specs.Door.{imageAfter, Reported, entriesIn, CalledOn}
 use Rattle.reserve.specs.declared.Outcome.{Outcome}
-use Rattle.reserve.proofs.Images.{table-of-image}
+use Rattle.image.proofs.Images.{table-of-image}
 use Rattle.histories.specs.Bytes.{Led, opened, called, bookOf, SameReport, no-room, room, BytesOfBox, BytesDemand3}
 
 -- ---- one call more at the end

@@ -7,7 +7,7 @@ use Rattle.calls.specs.Call.{Call, grant-level, grant-pages, release, tenantOf}
 use Rattle.calls.specs.Step.{step, open-reserve}
 use Rattle.calls.specs.History.{Book, bookFrom, held}
 use Rattle.calls.specs.Demand.{Valid, Asks, NoPlacement, Boxes}
-use Rattle.reserve.specs.Image.{imageOf, tableOf}
+use Rattle.image.specs.Image.{imageOf, tableOf}
 use Rattle.reserve.specs.Door.{imageAfter, entriesIn, CalledOn}
 use Rattle.reserve.specs.declared.Outcome.{Outcome}
 

@@ -1,4 +1,2 @@
-pub mod Images
-pub mod Counts
 pub mod Reports
 pub mod NodePages

@@ -15,10 +15,11 @@ use Rattle.calls.specs.declared.Called.{Called}
 use Rattle.calls.proofs.Given.{value-of-step, value-of-opening}
 use Rattle.calls.proofs.Opening.{opened-table, table-length}
 use Rattle.calls.proofs.Entries.{entriesOf, zero-passes, done-table, done-entries}
-use Rattle.reserve.specs.Image.{imageOf, tableOf, moveBytes}
-use Rattle.reserve.specs.Door.{Decoded, imageAfter, Reported, Enough}
+use Rattle.image.specs.Image.{imageOf, tableOf, moveBytes}
+use Rattle.image.specs.Image.{Decoded}
+use Rattle.reserve.specs.Door.{imageAfter, Reported, Enough}
 use Rattle.reserve.specs.declared.Outcome.{Outcome}
-use Rattle.reserve.proofs.Images.{table-of-other}
+use Rattle.image.proofs.Images.{table-of-other}
 
 opening-table : (h : ℕ) (T : List ℕ) → open-reserve h T .answer ≡ 0 → length T ≡ 4096
 unfolding open-reserve

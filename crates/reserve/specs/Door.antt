@@ -4,19 +4,13 @@ use mathlib.Core.Bool.{cond}
 use mathlib.Core.List.{List, _++_}
 use Prim.Native.Nat.{ℕ, _*_, _/_, _≤_}
 use lib.Dec.{eqb}
-use lib.ListN.{length, take, drop}
+use lib.ListN.{length, drop}
 use Rattle.calls.specs.Call.{Call}
 use Rattle.calls.specs.Step.{Outcome as Result, step}
-use Rattle.reserve.specs.Image.{imageOf, tableOf, moveBytes}
+use Rattle.image.specs.Image.{imageOf, tableOf, moveBytes}
 use Rattle.pagemap.specs.declared.Counted.{Counted as Bits}
 use Rattle.reserve.specs.declared.Outcome.{Outcome}
 use Rattle.reserve.specs.declared.page_map.Counted.{Counted}
-
--- the first n entries of the array are the table that the image stands for
-pub record Decoded (image nodes : List ℕ) (n : ℕ) : Type 0 where
-  pub few : n ≤ 4096
-  pub front : take n nodes ≡ tableOf image
-  pub long : length nodes ≡ 4096
 
 -- the image afterwards: that of the new table; a refusal leaves every byte
 abbrev pub imageAfter : Result → List ℕ → List ℕ

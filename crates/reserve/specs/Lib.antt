@@ -1,4 +1,3 @@
-pub mod Image
 pub mod Door
 pub mod Records
 pub mod NodePages

@@ -2,9 +2,9 @@
 ghost use mathlib.Core.Path.{_≡_};
 ghost use Rattle.pagemap.specs.Draw.{drawing, drawn};
 ghost use Rattle.pagemap.specs.Count.{counted};
-ghost use Rattle.reserve.specs.Image.{tableOf};
+ghost use Rattle.image.specs.Image.{tableOf};
 ghost use Rattle.reserve.specs.Door.{countOf};
-use crate::image::decode;
+use image::decode;
 use table::TENANTS;
 
 // What counting reports: 0 or 15, and the number of set bits.

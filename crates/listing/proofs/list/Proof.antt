@@ -35,7 +35,8 @@ fill-requires c κs = c .before .before .loop .inv .2
 room : (c : tie.After-fill Inv-loop μ-loop) → c .fill .result .length ≤ length (c .fill .last .1 .1 .1 .0)
 room c = omega (arith, c .fill .ensures .0 .within, c .fill .kept .1 .1 .1 .0)
 
-table-kept : (c : tie.After-fill Inv-loop μ-loop) → length (c .fill .last .1 .1 .0) ≡ length (c .before .before .before .before .before .before .before .before .args .table .now)
+table-kept : (c : tie.After-fill Inv-loop μ-loop) → let start = c .before .before .before .before .before .before .before .before in
+    length (c .fill .last .1 .1 .0) ≡ length (start .args .table .now)
 table-kept c = c .fill .kept .1 .1 .0 ∙ c .before .before .before .loop .inv .0
 
 array-share-prefix-block : tie.Need-array-share-prefix-block Inv-loop μ-loop

@@ -6,7 +6,7 @@ use lib.ListN.{length}
 use Rattle.table.specs.Plan.{movesIn}
 use Rattle.calls.specs.Value.{numberOf, valueOf}
 use Rattle.table.proofs.Arrays.{length-of-mapped}
-use Rattle.reserve.proofs.Counts.{count-some}
+use Rattle.image.proofs.Counts.{count-some}
 use Rattle.reserve.proofs.Reports.{report-refused, report-done}
 use borrow.Author.Needs.{needs}
 use Rattle.reserve.proofs.finish.Statement.{statement}

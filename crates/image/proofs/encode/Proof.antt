@@ -1,4 +1,4 @@
--- `reserve::image::encode` meets its contract. The loop's invariant: the bytes passed are the image of the entries passed, the others as they were.
+-- `image::encode` meets its contract. The loop's invariant: the bytes passed are the image of the entries passed, the others as they were.
 -- The measure is how many entries are left.
 use mathlib.Core.Path.{_≡_, refl, sym, _∙_}
 use mathlib.Core.List.{_++_}
@@ -6,10 +6,10 @@ use Prim.Native.Nat.{_+_, _*_, _-_, _≤_, _<_, zero-le}
 use native.Mathlib.Omega.{arith}
 use borrow.Author.Needs.{needs}
 use lib.ListN.{length, take, drop}
-use Rattle.reserve.specs.Image.{imageOf}
-use Rattle.reserve.proofs.Images.{encoded-more, encoded-all}
-use Rattle.reserve.proofs.image.encode.Statement.{statement}
-use Rattle.reserve.proofs.image.encode.Tie as tie
+use Rattle.image.specs.Image.{imageOf}
+use Rattle.image.proofs.Images.{encoded-more, encoded-all}
+use Rattle.image.proofs.encode.Statement.{statement}
+use Rattle.image.proofs.encode.Tie as tie
 
 abbrev Inv-loop : tie.InvT-loop
 Inv-loop nodes image₀ i₀ image i = (i ≤ 4096) × (image ≡ imageOf (take i nodes) ++ drop (2 * i) image₀) × (length image ≡ 8192)

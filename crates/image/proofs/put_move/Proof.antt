@@ -1,10 +1,10 @@
--- `reserve::image::put_move` meets its contract: its stores are one run of six bytes.
+-- `image::put_move` meets its contract: its stores are one run of six bytes.
 use Prim.Native.Nat.{_-_}
-use Rattle.reserve.specs.Image.{numbersOf}
-use Rattle.reserve.proofs.Images.{three-numbers}
+use Rattle.image.specs.Image.{numbersOf}
+use Rattle.image.proofs.Images.{three-numbers}
 use borrow.Author.Needs.{needs}
-use Rattle.reserve.proofs.image.put_move.Statement.{statement}
-use Rattle.reserve.proofs.image.put_move.Tie as tie
+use Rattle.image.proofs.put_move.Statement.{statement}
+use Rattle.image.proofs.put_move.Tie as tie
 
 put-word-requires : tie.Need-put-word-requires
 put-word-requires c κs = search needs

@@ -1,4 +1,4 @@
--- `reserve::image::put_moves` meets its contract. The loop's invariant: the bytes passed are those of the moves passed, the others as they were.
+-- `image::put_moves` meets its contract. The loop's invariant: the bytes passed are those of the moves passed, the others as they were.
 -- The measure is how many moves are left.
 use mathlib.Core.Path.{_≡_, refl, ap, _∙_}
 use mathlib.Core.List.{List, _++_}
@@ -7,11 +7,11 @@ use native.Mathlib.Omega.{arith}
 use lib.ListN.{length, take, drop}
 use Rattle.table.specs.declared.Move.{Move}
 use Rattle.table.proofs.Arrays.{length-of-mapped, take-own-length}
-use Rattle.reserve.specs.Image.{imageOf, numbersOf, moveBytes}
-use Rattle.reserve.proofs.Images.{put-more}
-use Rattle.reserve.proofs.Counts.{count-some}
-use Rattle.reserve.proofs.image.put_moves.Statement.{statement}
-use Rattle.reserve.proofs.image.put_moves.Tie as tie
+use Rattle.image.specs.Image.{imageOf, numbersOf, moveBytes}
+use Rattle.image.proofs.Images.{put-more}
+use Rattle.image.proofs.Counts.{count-some}
+use Rattle.image.proofs.put_moves.Statement.{statement}
+use Rattle.image.proofs.put_moves.Tie as tie
 
 abbrev Inv-loop : tie.InvT-loop
 Inv-loop list₀ n moves k₀ list k = (k ≤ n) × (list ≡ moveBytes (take k moves) ++ drop (6 * k) list₀) × (length list ≡ length list₀)

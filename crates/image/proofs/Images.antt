@@ -7,12 +7,12 @@ use native.Mathlib.Omega.{arith}
 use borrow.Author.Tests.{eq-eqb, ne-eqb}
 use lib.ListN.{length, getD, take, drop, set, length-append, length-drop, drop-of-length-le}
 use lib.Seq.{take-all, drop-cons, drop-drop, take-suc, take-suc-set, take-at, length-take-le, drop-append-add, sets, sets-eq}
+use Rattle.table.specs.Plan.{no-move}
 use Rattle.table.specs.declared.Move.{Move}
-use Rattle.calls.specs.Accepted.{nobody}
 use Rattle.journal.specs.Format.{low, high, word, wordAt}
 use Rattle.journal.proofs.Fields.{word-low-high, low-word, high-word}
 use Rattle.journal.specs.Journal.{Bytes}
-use Rattle.reserve.specs.Image.{imageOf, numbersIn, tableOf, numbersOf, moveBytes}
+use Rattle.image.specs.Image.{imageOf, numbersIn, tableOf, numbersOf, moveBytes}
 
 -- ---- lengths
 
@@ -45,10 +45,10 @@ image-of-more : (T : List ℕ) (i : ℕ) → i < length T → imageOf (take (i +
 image-of-more T i p = rw (add-one, take-suc T i 0 p) (image-append (take i T) (getD T i 0 ∷ []))
 
 move-bytes-of-more : (ms : List Move) (i : ℕ) → i < length ms
-    → moveBytes (take (i + 1) ms) ≡ moveBytes (take i ms) ++ moveBytes (getD ms i nobody ∷ [])
+    → moveBytes (take (i + 1) ms) ≡ moveBytes (take i ms) ++ moveBytes (getD ms i no-move ∷ [])
 move-bytes-of-more ms i p =
-    let m = getD ms i nobody in
-    rw (add-one, take-suc ms i nobody p, numbers-append (take i ms) (m ∷ [])) (image-append (numbersOf (take i ms)) (numbersOf (m ∷ [])))
+    let m = getD ms i no-move in
+    rw (add-one, take-suc ms i no-move p, numbers-append (take i ms) (m ∷ [])) (image-append (numbersOf (take i ms)) (numbersOf (m ∷ [])))
 
 -- a run of stores right behind what is done
 module _ (done s : List ℕ) (at : ℕ) (e : length done ≡ at) where
@@ -79,13 +79,13 @@ encoded-all image₀ nodes image inv p q =
 
 pub put-more : (list₀ : List ℕ) (ms : List Move) (list : List ℕ) (i : ℕ) → list ≡ moveBytes (take i ms) ++ drop (6 * i) list₀
     → i < length ms → 6 * i + 6 ≤ length list₀
-    → sets list (6 * i) (moveBytes (getD ms i nobody ∷ [])) ≡ moveBytes (take (i + 1) ms) ++ drop (6 * (i + 1)) list₀
+    → sets list (6 * i) (moveBytes (getD ms i no-move ∷ [])) ≡ moveBytes (take (i + 1) ms) ++ drop (6 * (i + 1)) list₀
 unfolding imageOf numbersOf
 put-more list₀ ms list i inv p q =
     let done = moveBytes (take i ms) in
     let e : length done ≡ 6 * i = omega (arith, move-bytes-length (take i ms), length-take-le i ms (omega arith)) in
     let next : 6 * (i + 1) ≡ 6 * i + 6 = omega arith in
-    rw (inv, next, move-bytes-of-more ms i p) (stored-behind done list₀ (6 * i) e (moveBytes (getD ms i nobody ∷ [])) q)
+    rw (inv, next, move-bytes-of-more ms i p) (stored-behind done list₀ (6 * i) e (moveBytes (getD ms i no-move ∷ [])) q)
 
 -- three numbers stored one after the other are one run
 pub three-numbers : (l : List ℕ) (at a b c : ℕ)

@@ -1,9 +1,10 @@
 -- Numbers of 16 bits as bytes, the low byte first. Document 01, "Calls": the table as 8,192 bytes, a move as six.
+use mathlib.Core.Path.{_≡_}
 use mathlib.Core.Bool.{cond}
 use mathlib.Core.List.{List, [], _∷_}
-use Prim.Native.Nat.{ℕ}
+use Prim.Native.Nat.{ℕ, _≤_}
 use lib.Dec.{eqb}
-use lib.ListN.{length}
+use lib.ListN.{length, take}
 use Rattle.table.specs.declared.Move.{Move}
 use Rattle.journal.specs.Format.{low, high, word}
 
@@ -30,3 +31,9 @@ numbersOf (m ∷ ms) = m .tenant ∷ m .from ∷ m .to ∷ numbersOf ms
 -- six bytes to a move
 abbrev pub moveBytes : List Move → List ℕ
 moveBytes ms = imageOf (numbersOf ms)
+
+-- the first n entries of the array are the table that the image stands for
+pub record Decoded (image nodes : List ℕ) (n : ℕ) : Type 0 where
+  pub few : n ≤ 4096
+  pub front : take n nodes ≡ tableOf image
+  pub long : length nodes ≡ 4096

@@ -1,4 +1,4 @@
--- `reserve::image::decode` meets its contract. The loop's invariant: the numbers stored, and those of the bytes left, are the numbers of the image.
+-- `image::decode` meets its contract. The loop's invariant: the numbers stored, and those of the bytes left, are the numbers of the image.
 -- The measure is how many are left.
 use mathlib.Core.Path.{_≡_, refl, sym, _∙_}
 use mathlib.Core.List.{_++_}
@@ -6,10 +6,10 @@ use Prim.Native.Nat.{_+_, _*_, _-_, _≤_, zero-le}
 use native.Mathlib.Omega.{arith}
 use borrow.Author.Needs.{needs}
 use lib.ListN.{length, take, drop, length-set}
-use Rattle.reserve.specs.Image.{numbersIn}
-use Rattle.reserve.proofs.Images.{table-of-other, decoded-more, decoded-all}
-use Rattle.reserve.proofs.image.decode.Statement.{statement}
-use Rattle.reserve.proofs.image.decode.Tie as tie
+use Rattle.image.specs.Image.{numbersIn}
+use Rattle.image.proofs.Images.{table-of-other, decoded-more, decoded-all}
+use Rattle.image.proofs.decode.Statement.{statement}
+use Rattle.image.proofs.decode.Tie as tie
 
 abbrev Inv-loop : tie.InvT-loop
 Inv-loop image nodes₀ i₀ nodes i = (i ≤ 4096) × (take i nodes ++ numbersIn (drop (2 * i) image) ≡ numbersIn image) × (length nodes ≡ 4096)
