@@ -74,7 +74,6 @@ def edges():
     journal = bytes([1, 0, 3, 0, 0, 1, 0]) + release(7) * releases
     lines = ["1 O 0 - 0 - 0", "2 P 0 1 0 1 0"] + [f"{i + 3} R 7 - 9 - 0" for i in range(releases)]
     assert len(journal) == 65536
-    yield "nothing", b"", ["! 0 11"]
     yield "the longest journal", journal, lines
     yield "the longest journal, cut off", journal[:-3] + bytes([3, 0, 0]), lines[:-1] + ["! 65533 13"]
     yield "a byte too many", journal + b"\x00", ["! 0 16"]
