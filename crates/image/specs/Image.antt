@@ -32,6 +32,10 @@ numbersOf (m ∷ ms) = m .tenant ∷ m .from ∷ m .to ∷ numbersOf ms
 abbrev pub moveBytes : List Move → List ℕ
 moveBytes ms = imageOf (numbersOf ms)
 
+-- the array after an image was read into it: the table, or as it was where the image has another length than 8,192
+abbrev pub readInto : List ℕ → List ℕ → List ℕ
+readInto image nodes = cond (eqb (length image) 8192) (tableOf image) nodes
+
 -- the first n entries of the array are the table that the image stands for
 pub record Decoded (image nodes : List ℕ) (n : ℕ) : Type 0 where
   pub few : n ≤ 4096

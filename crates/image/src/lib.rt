@@ -5,7 +5,7 @@ ghost use Prim.Native.Nat.{_+_, _*_, _≤_};
 ghost use lib.ListN.{length, drop};
 ghost use lib.Seq.{sets};
 ghost use Rattle.table.specs.Plan.{movesIn};
-ghost use Rattle.image.specs.Image.{imageOf, moveBytes, Decoded};
+ghost use Rattle.image.specs.Image.{imageOf, moveBytes, readInto, Decoded};
 use journal::put_word;
 use journal::word;
 use table::Move;
@@ -17,11 +17,12 @@ const TABLE_BYTES: usize = 8192;
 
 pub const MOVE_BYTES: usize = 6;
 
-// Reads the table that an image stands for into the front of the array, and says how many entries it has: none if the image does not have 8,192
-// bytes.
+// Reads the table that an image stands for into the array, and says how many entries it has: none, and the array stays as it was, if the image
+// does not have 8,192 bytes.
 pub fn decode(image: &[u8], nodes: &mut [u16; TENANTS]) -> usize
     requires { ⌜ length (now nodes) ≡ 4096 ⌝ }
-    ensures { λ r. ⌜ Decoded (now (image .entry)) (now (nodes .exit)) r ⌝ }
+    ensures front { λ r. ⌜ Decoded (now (image .entry)) (now (nodes .exit)) r ⌝ }
+    ensures nodes { λ _. ⌜ now (nodes .exit) ≡ readInto (now (image .entry)) (now (nodes .entry)) ⌝ }
 {
     if image.len() != TABLE_BYTES {
         return 0;

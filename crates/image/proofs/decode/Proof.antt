@@ -5,7 +5,9 @@ use mathlib.Core.List.{_++_}
 use Prim.Native.Nat.{_+_, _*_, _-_, _≤_, zero-le}
 use native.Mathlib.Omega.{arith}
 use borrow.Author.Needs.{needs}
+use borrow.Author.Tests.{eq-eqb, ne-eqb}
 use lib.ListN.{length, take, drop, length-set}
+use lib.Seq.{take-all}
 use Rattle.image.specs.Image.{numbersIn}
 use Rattle.image.proofs.Images.{table-of-other, decoded-more, decoded-all}
 use Rattle.image.proofs.decode.Statement.{statement}
@@ -18,11 +20,10 @@ abbrev μ-loop : tie.MeasureT-loop
 μ-loop image nodes₀ i₀ nodes i = 4096 - i
 
 returns : tie.Need-returns Inv-loop μ-loop
-returns c = record {
-  few = zero-le;
-  front = sym (table-of-other (c .before .before .args .image .now) (c .if1 .taken));
-  long = c .before .before .pre;
-}
+returns c =
+    let s = c .before .before .args .image .now in
+    let other = c .if1 .taken in
+    (record { few = zero-le; front = sym (table-of-other s other); long = c .before .before .pre }, rw (ne-eqb (length s) 8192 other))
 
 loop-holds : tie.Need-loop-holds Inv-loop μ-loop
 loop-holds c = (zero-le, refl, c .before .before .pre)
@@ -72,12 +73,13 @@ returns-2 : tie.Need-returns-2 Inv-loop μ-loop
 returns-2 c =
     let at-loop = c .before in
     let s = at-loop .before .before .before .args .image .now in
+    let nodes = at-loop .loop .nodes in
     let all : at-loop .loop .i ≡ 4096 = omega arith in
-    record {
-      few = omega arith;
-      front = decoded-all s (at-loop .loop .nodes) (omega arith) (rw all at (at-loop .loop .inv .1));
-      long = at-loop .loop .inv .2;
-    }
+    let whole : length s ≡ 8192 = omega arith in
+    let front = decoded-all s nodes whole (rw all at (at-loop .loop .inv .1)) in
+    let long = at-loop .loop .inv .2 in
+    let array = sym (take-all 4096 nodes (omega (arith, long))) ∙ front in
+    (record { few = omega arith; front = front; long = long }, rw (eq-eqb (length s) 8192 whole) array)
 
 pub decode-spec : {M : Type 1} → statement M
 decode-spec =

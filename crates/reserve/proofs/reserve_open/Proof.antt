@@ -14,7 +14,7 @@ array-borrow-prefix-nodes : tie.Need-array-borrow-prefix-nodes
 array-borrow-prefix-nodes c = search needs
 
 slice-aggregate-open : tie.Need-slice-aggregate-open
-slice-aggregate-open c = front-count (c .before .decode .ensures)
+slice-aggregate-open c = front-count (c .before .decode .ensures .0)
 
 open-requires : tie.Need-open-requires
 open-requires c κs = search needs
@@ -37,7 +37,7 @@ returns : tie.Need-returns
 returns c =
     let x = c .before .before .before in
     let named = c .before .number .ensures in
-    let d = x .before .before .decode .ensures in
+    let d = x .before .before .decode .ensures .0 in
     let o = x .«open» in (
       open-answer (heightOf x) (o .result) d (kept x) (o .ensures .0) (o .ensures .1) named,
       open-refused (heightOf x) (o .result) d (kept x) (o .ensures .0) (o .ensures .1) named (c .if1 .taken),
@@ -47,7 +47,7 @@ encode-requires : tie.Need-encode-requires
 encode-requires c κs =
     let x = c .before .before .before .before .before in
     let named = c .before .before .before .number .ensures in
-    let d = x .before .before .decode .ensures in
+    let d = x .before .before .decode .ensures .0 in
     let o = x .«open» in
     open-finishes (heightOf x) (o .result) d (kept x) (o .ensures .0) (o .ensures .1) named (c .before .before .if1 .left)
 
@@ -59,7 +59,7 @@ returns-2 c =
     let x = c .before .before .before .before .before .before .before .before in
     let named = c .before .before .before .before .before .before .number .ensures in
     let zero = c .before .before .before .before .before .if1 .left in
-    let d = x .before .before .decode .ensures in
+    let d = x .before .before .decode .ensures .0 in
     let o = x .«open» in (
       sym zero ∙ open-answer (heightOf x) (o .result) d (kept x) (o .ensures .0) (o .ensures .1) named,
       c .before .before .encode .ensures ∙ open-done (heightOf x) (o .result) d (kept x) (o .ensures .0) (o .ensures .1) named zero,

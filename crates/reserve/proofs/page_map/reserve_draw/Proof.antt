@@ -15,7 +15,7 @@ array-share-prefix-nodes : tie.Need-array-share-prefix-nodes
 array-share-prefix-nodes c = search needs
 
 slice-aggregate-draw : tie.Need-slice-aggregate-draw
-slice-aggregate-draw c = front-count (c .before .decode .ensures)
+slice-aggregate-draw c = front-count (c .before .decode .ensures .0)
 
 draw-requires : tie.Need-draw-requires
 draw-requires c κs = search needs
@@ -27,7 +27,7 @@ returns : tie.Need-returns
 returns c =
     let x = c .before .before in
     let a = c .before .before .before .before .before .before .before .before .before .args in
-    x .draw .ensures ∙ ap (λ (T : List ℕ). drawn (a .height) T (a .map .now)) (x .before .before .before .decode .ensures .front)
+    x .draw .ensures ∙ ap (λ (T : List ℕ). drawn (a .height) T (a .map .now)) (x .before .before .before .decode .ensures .0 .front)
 
 pub reserve-draw-spec : {M : Type 1} → statement M
 reserve-draw-spec =
