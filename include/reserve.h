@@ -14,6 +14,10 @@
  * and has to be done, from the first of the moves to the last, before the next call on the same table. reserve_node_pages
  * says which pages a node covers.
  *
+ * A grant names its block by level or by pages. A tenant that names pages gets one more, a guard page at the end, in case it
+ * runs over: p pages, p above 0, get the smallest block of p + 1 or more. 0 pages name no size and get a block of one page,
+ * without a guard page. A block that is named by its level has just its 2^level pages.
+ *
  * WHAT IS LENT
  *
  * There is no state but the table, which is the caller's. Every function reads and writes only the bytes that it is lent,
@@ -78,9 +82,10 @@
 extern "C" {
 #endif
 
-/* The version of this interface. Whatever changes a layout, a signature or a constant raises it: the major number, and the
- * minor one is then 0, if programs have to be changed or compiled again; the minor number if something is only added. */
-#define RESERVE_VERSION_MAJOR 1
+/* The version of this interface. Whatever changes a layout, a signature, a constant or what a function does with the same
+ * arguments raises it: the major number, and the minor one is then 0, if programs have to be changed or compiled again; the
+ * minor number if something is only added. 2.0: a grant by pages has a guard page. */
+#define RESERVE_VERSION_MAJOR 2
 #define RESERVE_VERSION_MINOR 0
 #define RESERVE_VERSION (1000 * RESERVE_VERSION_MAJOR + RESERVE_VERSION_MINOR)
 
@@ -107,7 +112,7 @@ enum reserve_answer {
     RESERVE_REFUSED_MOVES = 3,         /* fewer than 24 bytes are lent for the moves */
     RESERVE_REFUSED_TENANT = 4,        /* the tenant is above 4095 */
     RESERVE_REFUSED_LEVEL = 5,         /* the level is above the height */
-    RESERVE_REFUSED_PAGES = 6,         /* the pages are more than the reserve has */
+    RESERVE_REFUSED_PAGES = 6,         /* the pages with their guard page are more than the reserve has: 2^h or more are named */
     RESERVE_REFUSED_NOT_IN_ORDER = 7,  /* the table is none that this planner leaves at this height; or a number is no node */
     RESERVE_REFUSED_HOLDS = 8,         /* a grant to a tenant that holds a block */
     RESERVE_REFUSED_HOLDS_NONE = 9,    /* a release by a tenant that holds none */
@@ -172,7 +177,8 @@ uint16_t reserve_open(uint16_t height, uint8_t *table, size_t table_length);
 struct reserve_outcome reserve_grant_level(uint16_t height, uint8_t *table, size_t table_length, uint8_t *moves,
                                            size_t moves_length, uint16_t tenant, uint16_t level);
 
-/* Grants a tenant the smallest block that has so many pages; 0 pages get a block of one. Answers 0, or 1 to 4, 6 to 8 or 10. */
+/* Grants a tenant the smallest block that has so many pages and one more, the guard page; 0 pages get a block of one page.
+ * Answers 0, or 1 to 4, 6 to 8 or 10. */
 struct reserve_outcome reserve_grant_pages(uint16_t height, uint8_t *table, size_t table_length, uint8_t *moves,
                                            size_t moves_length, uint16_t tenant, uint16_t pages);
 

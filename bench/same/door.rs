@@ -40,6 +40,16 @@ pub fn same_grant_level(height: u16, table: &mut [u8], moves: &mut [u8], tenant:
 }
 
 #[inline(never)]
+pub fn same_grant_pages(height: u16, table: &mut [u8], moves: &mut [u8], tenant: u16, pages: u16) -> Outcome {
+    outcome(call(height, table, moves, tenant, |nodes| {
+        if pages >= 1 << height {
+            return Err(6);
+        }
+        calls::grant(height, nodes, tenant, level_for(pages))
+    }))
+}
+
+#[inline(never)]
 pub fn same_release(height: u16, table: &mut [u8], moves: &mut [u8], tenant: u16) -> Outcome {
     outcome(call(height, table, moves, tenant, |nodes| {
         calls::release(height, nodes, tenant)
@@ -95,6 +105,11 @@ fn call(
     image::encode(&nodes, table);
     image::put_moves(&done.plan, moves);
     Ok(done)
+}
+
+/// The smallest level whose block has so many pages and a guard page, that is more than so many; level 0 for no size.
+fn level_for(pages: u16) -> u16 {
+    pages.checked_ilog2().map_or(0, |highest| highest as u16 + 1)
 }
 
 /// Refusals 1 and 2.

@@ -1,7 +1,7 @@
 //! That all planners give the same answers, tables, moves and maps, before anything is timed.
 
 use oracle::generate;
-use oracle::planner::{level_for_pages, Request};
+use oracle::planner::Request;
 use oracle::random::Random;
 use oracle::subject::{Reach, TABLE_BYTES};
 use same::door::Outcome;
@@ -78,9 +78,9 @@ fn random_asks(height: u16, random: &mut Random) -> Vec<Ask> {
             tenant: narrow(tenant),
             level: narrow(level),
         },
-        Request::GrantPages { tenant, pages } => Ask::Grant {
+        Request::GrantPages { tenant, pages } => Ask::GrantPages {
             tenant: narrow(tenant),
-            level: narrow(level_for_pages(pages)),
+            pages: narrow(pages),
         },
         Request::Release { tenant } => Ask::Release { tenant: narrow(tenant) },
     };

@@ -12,6 +12,7 @@ mod functions;
 pub trait Contestant {
     fn open(height: u16, table: &mut [u8]) -> u16;
     fn grant(height: u16, table: &mut [u8], moves: &mut [u8], tenant: u16, level: u16) -> Outcome;
+    fn grant_pages(height: u16, table: &mut [u8], moves: &mut [u8], tenant: u16, pages: u16) -> Outcome;
     fn release(height: u16, table: &mut [u8], moves: &mut [u8], tenant: u16) -> Outcome;
     fn draw(height: u16, table: &[u8], map: &mut [u8]) -> u16;
     fn count(map: &[u8]) -> Counted;
@@ -41,6 +42,14 @@ impl Contestant for Library {
         let (moves, moves_length) = (moves.as_mut_ptr(), moves.len());
         Library::outcome(unsafe {
             functions::reserve_grant_level(height, table, table_length, moves, moves_length, tenant, level)
+        })
+    }
+
+    fn grant_pages(height: u16, table: &mut [u8], moves: &mut [u8], tenant: u16, pages: u16) -> Outcome {
+        let (table, table_length) = (table.as_mut_ptr(), table.len());
+        let (moves, moves_length) = (moves.as_mut_ptr(), moves.len());
+        Library::outcome(unsafe {
+            functions::reserve_grant_pages(height, table, table_length, moves, moves_length, tenant, pages)
         })
     }
 
@@ -75,6 +84,10 @@ impl Contestant for Same {
 
     fn grant(height: u16, table: &mut [u8], moves: &mut [u8], tenant: u16, level: u16) -> Outcome {
         door::same_grant_level(height, table, moves, tenant, level)
+    }
+
+    fn grant_pages(height: u16, table: &mut [u8], moves: &mut [u8], tenant: u16, pages: u16) -> Outcome {
+        door::same_grant_pages(height, table, moves, tenant, pages)
     }
 
     fn release(height: u16, table: &mut [u8], moves: &mut [u8], tenant: u16) -> Outcome {
@@ -115,6 +128,10 @@ impl Contestant for Second {
 
     fn grant(height: u16, table: &mut [u8], moves: &mut [u8], tenant: u16, level: u16) -> Outcome {
         Second::outcome(Oracle.grant_level(height.into(), table, moves, tenant.into(), level.into()))
+    }
+
+    fn grant_pages(height: u16, table: &mut [u8], moves: &mut [u8], tenant: u16, pages: u16) -> Outcome {
+        Second::outcome(Oracle.grant_pages(height.into(), table, moves, tenant.into(), pages.into()))
     }
 
     fn release(height: u16, table: &mut [u8], moves: &mut [u8], tenant: u16) -> Outcome {

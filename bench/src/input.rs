@@ -14,6 +14,7 @@ pub type Table = [u8; TABLE_BYTES];
 pub enum Ask {
     Open,
     Grant { tenant: u16, level: u16 },
+    GrantPages { tenant: u16, pages: u16 },
     Release { tenant: u16 },
     Map,
     Count,
@@ -50,7 +51,7 @@ impl Ask {
     pub fn name(self) -> &'static str {
         match self {
             Ask::Open => "open",
-            Ask::Grant { .. } => "grant",
+            Ask::Grant { .. } | Ask::GrantPages { .. } => "grant",
             Ask::Release { .. } => "release",
             Ask::Map => "map",
             Ask::Count => "count",
@@ -62,6 +63,9 @@ impl Ask {
         let (answer, node) = match self {
             Ask::Grant { tenant, level } => {
                 return C::grant(height, &mut lent.table, &mut lent.moves, tenant, level);
+            }
+            Ask::GrantPages { tenant, pages } => {
+                return C::grant_pages(height, &mut lent.table, &mut lent.moves, tenant, pages);
             }
             Ask::Release { tenant } => return C::release(height, &mut lent.table, &mut lent.moves, tenant),
             Ask::Open => (C::open(height, &mut lent.table), 0),

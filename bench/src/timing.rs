@@ -112,7 +112,11 @@ fn as_printed(time: f64) -> f64 {
 }
 
 fn batch<C: Contestant>(input: &Input) -> f64 {
-    let changes = matches!(input.ask, Ask::Grant { .. } | Ask::Release { .. }) && outcome_of(input).answer == 0;
+    let may_change = matches!(
+        input.ask,
+        Ask::Grant { .. } | Ask::GrantPages { .. } | Ask::Release { .. }
+    );
+    let changes = may_change && outcome_of(input).answer == 0;
     let laps = if changes { 1 } else { LAPS };
     per_call::<COPIES>(input, laps, |lent| {
         black_box(input.ask.put_to::<C>(input.height, lent));

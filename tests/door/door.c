@@ -236,7 +236,7 @@ static void arguments(void) {
     struct lent shorter = lend(RESERVE_TABLE_BYTES - 2, 0x11);
     struct lent few = lend(RESERVE_MOVES_BYTES - 1, 0x22);
     uint8_t *table, *copy;
-    EXPECT(granted(box, grant_pages(box, 5, 2), 5, 4, 0));
+    EXPECT(granted(box, grant_pages(box, 5, 1), 5, 4, 0));
     table = copy_of(box.table);
     EXPECT(refused(reserve_grant_level(13, longer.bytes, longer.length, few.bytes, few.length, 4096, 14),
                    RESERVE_REFUSED_HEIGHT));
@@ -259,11 +259,12 @@ static void arguments(void) {
     EXPECT(refused(release(box, 4096), RESERVE_REFUSED_TENANT));
     EXPECT(refused(grant_level(box, 5, 4), RESERVE_REFUSED_LEVEL));
     EXPECT(refused(grant_level(box, 5, 65535), RESERVE_REFUSED_LEVEL));
-    EXPECT(refused(grant_pages(box, 5, 9), RESERVE_REFUSED_PAGES));
+    EXPECT(refused(grant_pages(box, 5, 8), RESERVE_REFUSED_PAGES));
     EXPECT(refused(grant_pages(box, 5, 65535), RESERVE_REFUSED_PAGES));
     EXPECT(refused(grant_level(box, 5, 3), RESERVE_REFUSED_HOLDS));
     EXPECT(refused(grant_level(box, 6, 3), RESERVE_REFUSED_NO_ROOM));
-    EXPECT(refused(grant_pages(box, 6, 8), RESERVE_REFUSED_NO_ROOM));
+    EXPECT(refused(grant_pages(box, 5, 7), RESERVE_REFUSED_HOLDS));
+    EXPECT(refused(grant_pages(box, 6, 7), RESERVE_REFUSED_NO_ROOM));
     EXPECT(refused(release(box, 6), RESERVE_REFUSED_HOLDS_NONE));
     EXPECT(moves_end_after(box, 0));
     copy = copy_of(box.table);
@@ -283,9 +284,9 @@ static void edges(void) {
     struct lent moves = lend(RESERVE_MOVES_BYTES, 0x33);
     struct reserve_outcome got;
     EXPECT(reserve_open(12, table.bytes, table.length) == RESERVE_DONE);
-    got = reserve_grant_pages(12, table.bytes, table.length, moves.bytes, moves.length, 4095, 4096);
+    got = reserve_grant_pages(12, table.bytes, table.length, moves.bytes, moves.length, 4095, 4095);
     EXPECT(got.answer == RESERVE_DONE && got.node == 1 && got.moves == 0);
-    EXPECT(refused(reserve_grant_pages(12, table.bytes, table.length, moves.bytes, moves.length, 0, 4097),
+    EXPECT(refused(reserve_grant_pages(12, table.bytes, table.length, moves.bytes, moves.length, 0, 4096),
                    RESERVE_REFUSED_PAGES));
     EXPECT(refused(reserve_grant_pages(12, table.bytes, table.length, moves.bytes, moves.length, 0, 0),
                    RESERVE_REFUSED_NO_ROOM));
@@ -305,6 +306,37 @@ static void edges(void) {
     give_back(moves);
 }
 
+/* the first node of the smallest level whose block has so many pages and the guard page; one page where no size is named */
+static unsigned first_node(unsigned height, unsigned pages) {
+    unsigned needed = pages == 0 ? 1 : pages + 1;
+    unsigned level = 0;
+    while (1u << level < needed) {
+        level++;
+    }
+    return 1u << (height - level);
+}
+
+/* every size that can be named, at every height: on an empty reserve it gets its block, or 6 from 2^h pages on */
+static void sizes(void) {
+    unsigned height, pages;
+    for (height = 0; height <= RESERVE_MAX_HEIGHT; height++) {
+        struct box box = open_box((uint16_t)height);
+        int right = 1;
+        for (pages = 0; pages < 1u << height; pages++) {
+            unsigned node = first_node(height, pages);
+            right = right && granted(box, grant_pages(box, 9, (uint16_t)pages), 9, node, 0);
+            right = right && released(box, release(box, 9), 9, node, 0);
+        }
+        for (; pages <= 65535; pages++) {
+            right = right && refused(grant_pages(box, 9, (uint16_t)pages), RESERVE_REFUSED_PAGES) && node_of(box.table, 9) == 0;
+            right = right && moves_end_after(box, 0);
+        }
+        EXPECT(right);
+        EXPECT(all_are(box.table, 0));
+        close_box(box);
+    }
+}
+
 /* one byte fewer than the moves need is refused, where nothing else is wrong; all that they need, and more, is not */
 static void bytes_of_moves(void) {
     size_t n;
@@ -313,7 +345,7 @@ static void bytes_of_moves(void) {
         struct lent table = lend(RESERVE_TABLE_BYTES, 0);
         struct lent moves = lend(n, 0x22);
         EXPECT(reserve_grant_level(2, table.bytes, table.length, moves.bytes, n, 0, 1).answer == answer);
-        EXPECT(reserve_grant_pages(2, table.bytes, table.length, moves.bytes, n, 1, 2).answer == answer);
+        EXPECT(reserve_grant_pages(2, table.bytes, table.length, moves.bytes, n, 1, 1).answer == answer);
         EXPECT(all_are(table, 0) == (n < RESERVE_MOVES_BYTES));
         put_node(table, 0, 2);
         put_node(table, 1, 3);
@@ -346,7 +378,7 @@ static void not_in_order(void) {
         put_node(box.table, 4095, nodes[i][1]);
         copy = copy_of(box.table);
         EXPECT(refused(grant_level(box, 100, 0), RESERVE_REFUSED_NOT_IN_ORDER));
-        EXPECT(refused(grant_pages(box, 5, 8), RESERVE_REFUSED_NOT_IN_ORDER));
+        EXPECT(refused(grant_pages(box, 5, 7), RESERVE_REFUSED_NOT_IN_ORDER));
         EXPECT(refused(release(box, 5), RESERVE_REFUSED_NOT_IN_ORDER));
         EXPECT(memcmp(copy, box.table.bytes, box.table.length) == 0 && moves_end_after(box, 0));
         free(copy);
@@ -360,7 +392,7 @@ static void everybody(void) {
     unsigned t;
     int right = 1;
     for (t = 0; t < RESERVE_TENANTS; t++) {
-        right = right && granted(box, grant_pages(box, (uint16_t)t, 1), t, 4096 + t, 0);
+        right = right && granted(box, grant_pages(box, (uint16_t)t, 0), t, 4096 + t, 0);
     }
     EXPECT(right);
     EXPECT(refused(grant_level(box, 0, 0), RESERVE_REFUSED_HOLDS));
@@ -416,7 +448,7 @@ static void page_map(void) {
     give_back(shorter);
     box = open_box(12);
     map = lend(RESERVE_MAP_BYTES, 0);
-    EXPECT(grant_pages(box, 3, 2048).answer == RESERVE_DONE);
+    EXPECT(grant_pages(box, 3, 2047).answer == RESERVE_DONE);
     EXPECT(reserve_draw(12, box.table.bytes, box.table.length, map.bytes, map.length) == RESERVE_DONE);
     EXPECT(map.bytes[0] == 0xFF && map.bytes[255] == 0xFF && map.bytes[256] == 0 && map.bytes[511] == 0);
     EXPECT(counts(map, RESERVE_DONE, 2048));
@@ -572,6 +604,7 @@ int main(void) {
     most_moves();
     arguments();
     edges();
+    sizes();
     bytes_of_moves();
     byte_order();
     not_in_order();

@@ -34,6 +34,10 @@ def grant(tenant, level):
     return struct.pack("<BHB", 2, tenant, level)
 
 
+def grant_pages(tenant, pages):
+    return struct.pack("<BHH", 3, tenant, pages)
+
+
 def release(tenant):
     return struct.pack("<BH", 4, tenant)
 
@@ -63,7 +67,7 @@ def drawn():
         elif kind < 4:
             journal += grant(tenant, draw.randrange(9))
         else:
-            journal += struct.pack("<BHH", 3, tenant, draw.randrange(300))
+            journal += grant_pages(tenant, draw.randrange(300))
     return journal
 
 
@@ -71,14 +75,30 @@ def edges():
     """Journals at the edges of their length, with the lines of each listing: 65,536 bytes are an open, a grant by pages and releases of a tenant that
     holds nothing; one byte more is too long, whatever it is and whatever comes first."""
     releases = 21843
-    journal = bytes([1, 0, 3, 0, 0, 1, 0]) + release(7) * releases
-    lines = ["1 O 0 - 0 - 0", "2 P 0 1 0 1 0"] + [f"{i + 3} R 7 - 9 - 0" for i in range(releases)]
+    journal = bytes([1, 0]) + grant_pages(0, 0) + release(7) * releases
+    lines = ["1 O 0 - 0 - 0", "2 P 0 0 0 1 0"] + [f"{i + 3} R 7 - 9 - 0" for i in range(releases)]
     assert len(journal) == 65536
     yield "the longest journal", journal, lines
     yield "the longest journal, cut off", journal[:-3] + bytes([3, 0, 0]), lines[:-1] + ["! 65533 13"]
     yield "a byte too many", journal + b"\x00", ["! 0 16"]
     yield "a byte too many, and no open", b"\x00" + journal, ["! 0 16"]
     yield "far too many bytes", journal * 3, ["! 0 16"]
+
+
+def sizes():
+    """For each height a journal that asks an empty reserve for pages at and beside their bounds, with the lines of its listing: a named size gets the
+    smallest block that has a page more, and 6 from 2^h on; pages 0 gets one page."""
+    for height in range(13):
+        journal = bytes([1, height])
+        lines = [f"1 O {height} - 0 - 0"]
+        for pages in 0, 1, 2**height - 2, 2**height - 1, 2**height, 2**height + 1, 65535:
+            if pages < 0:
+                continue
+            journal += grant_pages(7, pages) + release(7)
+            level = next(level for level in range(17) if 2**level >= pages + 1 or pages == 0)
+            granted, released = ("6 - 0", "9 - 0") if pages >= 2**height else (f"0 {2 ** (height - level)} 0",) * 2
+            lines += [f"{len(lines) + 1} P 7 {pages} {granted}", f"{len(lines) + 2} R 7 - {released}"]
+        yield f"sizes at height {height}", journal, lines
 
 
 def listed_by_oracle(*journals):
@@ -192,11 +212,19 @@ def check_listed(name, folder, journal, listing):
         ends_with(start(str(path)), listing, b"")
 
 
+def text(lines):
+    return "".join(line + "\n" for line in lines).encode()
+
+
 def check_listings(folder, long_journal, long_listing, drawn_journal, drawn_listing):
     for path in sorted(pathlib.Path(EXAMPLES).glob("*.journal")):
         check_listed(path.name, folder, path.read_bytes(), path.with_suffix(".listing").read_bytes())
     for name, journal, lines in edges():
-        check_listed(name, folder, journal, "".join(line + "\n" for line in lines).encode())
+        check_listed(name, folder, journal, text(lines))
+    for (name, journal, lines), by_oracle in zip(sizes(), listed_by_oracle(*(journal for _, journal, _ in sizes()))):
+        check_listed(name, folder, journal, text(lines))
+        with check(f"{name}, by the second planner"):
+            equal("its listing", by_oracle, text(lines))
     check_listed("a journal drawn at random", folder, drawn_journal, drawn_listing)
     with check("the longest listing has as many bytes as listings get"):
         assert len(long_listing) > 21 * BLOCK, len(long_listing)

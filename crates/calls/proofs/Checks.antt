@@ -4,12 +4,13 @@ use mathlib.Core.Bool.{Bool, true, false, not, cond}
 use mathlib.Core.List.{List, [], _∷_, _++_}
 use Prim.Native.Nat.{ℕ, zero, suc, _^_, _≤_, _<_}
 use native.Mathlib.Omega.{arith}
-use borrow.Author.Tests.{ltb-false, eqb-true, eq-eqb, le-ltb, not-false}
-use lib.Dec.{eqb, ltb}
+use borrow.Author.Tests.{ltb-false, leb-false, eqb-true, eq-eqb, le-ltb, not-false}
+use lib.Dec.{eqb, ltb, leb}
 use lib.ListN.{length}
 use Rattle.table.specs.Table.{in-order?}
 use Rattle.calls.specs.Call.{Call, grant-level, grant-pages, release, tenantOf}
-use Rattle.calls.specs.Step.{Check, check, first, list-checks, size-checks, validity, holdings, checks, unless, accepted, step}
+use Rattle.calls.specs.Step.{Check, check, first, length-checks, list-checks, pages-check, size-checks, validity, holdings, checks}
+use Rattle.calls.specs.Step.{unless, accepted, step}
 use Rattle.calls.specs.Demand.{Asks, by-level, by-pages}
 use Rattle.calls.specs.Value.{callOf}
 use Rattle.calls.specs.declared.Call.{Call as Arguments}
@@ -49,6 +50,13 @@ first-stands (c ∷ xs) ys ne = go (c .applies) ne (first-stands xs ys)
         → cond b (c .number) (first (xs ++ ys)) ≡ cond b (c .number) (first xs)
     go true z rest = refl
     go false z rest = rest z
+
+-- 1 to 4, of a table with n entries
+abbrev pub four : ℕ → ℕ → ℕ → ℕ → List Check
+four h n t m = length-checks h n ++ list-checks t m
+
+pub four-numbered : (h n t m : ℕ) → Numbered (four h n t m)
+four-numbered h n t m = (omega arith, (omega arith, (omega arith, (omega arith, tt))))
 
 pub validity-numbered : (h : ℕ) (c : Call) → Numbered (validity h c)
 validity-numbered h (grant-level t l m) = (omega arith, (omega arith, (omega arith, tt)))
@@ -96,7 +104,7 @@ tenant-below t m cs e =
 
 pub valid-tenant : (h : ℕ) (c : Call) → first (validity h c) ≡ 0 → tenantOf c < 4096
 valid-tenant h (grant-level t l m) v = tenant-below t m (check 5 (ltb h l) ∷ []) v
-valid-tenant h (grant-pages t p m) v = tenant-below t m (check 6 (ltb (2 ^ h) p) ∷ []) v
+valid-tenant h (grant-pages t p m) v = tenant-below t m (pages-check h p ∷ []) v
 valid-tenant h (release t m) v = tenant-below t m [] v
 
 size-check : (t m : ℕ) (c : Check) → first (list-checks t m ++ c ∷ []) ≡ 0 → first (c ∷ []) ≡ 0
@@ -108,7 +116,7 @@ pub valid-level : (h : ℕ) (c : Call) (l : ℕ) → Asks c l → first (validit
 valid-level h c l (by-level {t = t} {l = k} {m = m}) v =
     ltb-false h k (not-applied 5 (ltb h k) [] (omega arith) (size-check t m (check 5 (ltb h k)) v))
 valid-level h c l (by-pages {t = t} {p = p} {m = m}) v =
-    level-for-le p h (ltb-false (2 ^ h) p (not-applied 6 (ltb (2 ^ h) p) [] (omega arith) (size-check t m (check 6 (ltb (2 ^ h) p)) v)))
+    level-for-le p h (leb-false (2 ^ h) p (not-applied 6 (leb (2 ^ h) p) [] (omega arith) (size-check t m (pages-check h p) v)))
 
 -- 3 to 6 are 3 and 4, and then what is asked for
 pub validity-parts : (h : ℕ) (c : Arguments) (m : ℕ) → validity h (callOf c m) ≡ list-checks (tenantOf (callOf c 0)) m ++ size-checks h (callOf c 0)

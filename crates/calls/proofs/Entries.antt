@@ -3,14 +3,14 @@
 use mathlib.Core.Path.{_≡_, refl, sym}
 use mathlib.Core.Bool.{not}
 use mathlib.Core.List.{List, [], _∷_}
-use Prim.Native.Nat.{ℕ, zero, suc, _^_, _≤_, zero-le}
+use Prim.Native.Nat.{ℕ, zero, suc, _≤_, zero-le}
 use native.Mathlib.Omega.{arith}
 use borrow.Author.Tests.{ltb-false}
 use lib.Dec.{ltb}
 use lib.ListN.{length}
 use Rattle.table.specs.Table.{in-order?}
 use Rattle.calls.specs.Call.{Call, grant-level, grant-pages, release}
-use Rattle.calls.specs.Step.{Outcome, check, first, validity, holdings, checks, accepted, unless, step}
+use Rattle.calls.specs.Step.{Outcome, check, first, pages-check, validity, holdings, checks, accepted, unless, step}
 use Rattle.calls.specs.Value.{callOf}
 use Rattle.calls.specs.declared.Call.{Call as Arguments}
 use Rattle.calls.specs.declared.Call.the-variants.{GrantLevel, GrantPages, Release}
@@ -35,7 +35,7 @@ zero-passes (suc k) T o e = e
 
 valid-entries : (h : ℕ) (c : Call) → first (validity h c) ≡ 0 → 4 ≤ entriesOf c
 valid-entries h (grant-level t l m) e = ltb-false m 4 (not-applied 3 (ltb m 4) (check 4 (ltb 4095 t) ∷ check 5 (ltb h l) ∷ []) (omega arith) e)
-valid-entries h (grant-pages t p m) e = ltb-false m 4 (not-applied 3 (ltb m 4) (check 4 (ltb 4095 t) ∷ check 6 (ltb (2 ^ h) p) ∷ []) (omega arith) e)
+valid-entries h (grant-pages t p m) e = ltb-false m 4 (not-applied 3 (ltb m 4) (check 4 (ltb 4095 t) ∷ pages-check h p ∷ []) (omega arith) e)
 valid-entries h (release t m) e = ltb-false m 4 (not-applied 3 (ltb m 4) (check 4 (ltb 4095 t) ∷ []) (omega arith) e)
 
 module _ (h : ℕ) (T : List ℕ) (c : Call) (none : first (checks h T c) ≡ 0) where

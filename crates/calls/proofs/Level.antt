@@ -1,5 +1,5 @@
--- The level that a number of pages asks for is the smallest whose block has that many.
-use mathlib.Core.Path.{_≡_, refl}
+-- The level that a number of pages takes is the smallest whose block has them and the guard page.
+use mathlib.Core.Path.{_≡_, refl, sym}
 use mathlib.Core.Bool.{Bool, true, false, cond}
 use Prim.Native.Nat.{ℕ, zero, suc, _+_, _-_, _^_, _≤_, _<_}
 use native.Mathlib.Nat.{add-zero, add-suc, suc-add, zero-add, pow-suc, le-antisymm}
@@ -11,12 +11,8 @@ use lib.Dec.{leb}
 use lib.Pow.{pow-mono, pow-pos}
 use Rattle.tree.specs.Node.{depth}
 use Rattle.tree.proofs.Highest.{Highest, depth-highest}
-use Rattle.calls.specs.Call.{leastFrom, levelFor}
-
--- l is the smallest level whose block has p pages
-pub record Least (p l : ℕ) : Type 0 where
-  pub enough : p ≤ 2 ^ l
-  pub smallest : (m : ℕ) → p ≤ 2 ^ m → l ≤ m
+use Rattle.calls.specs.Call.{leastFrom, leastLevel, levelFor}
+use Rattle.calls.specs.Pages.{Least}
 
 least-from : (l n p : ℕ) → p ≤ 2 ^ (l + n) → ((m : ℕ) → p ≤ 2 ^ m → l ≤ m) → Least p (leastFrom l n p)
 least-from l zero p q s = record { enough = rw (add-zero l) at q; smallest = s }
@@ -41,19 +37,46 @@ pub le-pow : (p : ℕ) → p ≤ 2 ^ p
 le-pow zero = omega arith
 le-pow (suc p) = rw pow-suc (omega (arith, le-pow p, pow-pos p))
 
-pub level-for-least : (p : ℕ) → Least p (levelFor p)
-unfolding levelFor
-level-for-least p = least-from 0 p p (rw zero-add (le-pow p)) (λ m q. omega arith)
-
--- so pages that the reserve has ask for a level that it has
-pub level-for-le : (p h : ℕ) → p ≤ 2 ^ h → levelFor p ≤ h
-level-for-le p h q = level-for-least p .smallest h q
+least-level-least : (p : ℕ) → Least p (leastLevel p)
+unfolding leastLevel
+least-level-least p = least-from 0 p p (rw zero-add (le-pow p)) (λ m q. omega arith)
 
 least-unique : (p l m : ℕ) → Least p l → Least p m → l ≡ m
 least-unique p l m a b = le-antisymm (a .smallest m (b .enough)) (b .smallest l (a .enough))
 
-pub level-for-is : (p l : ℕ) → Least p l → levelFor p ≡ l
-level-for-is p l a = least-unique p (levelFor p) l (level-for-least p) a
+pub least-level-is : (p l : ℕ) → Least p l → leastLevel p ≡ l
+least-level-is p l a = least-unique p (leastLevel p) l (least-level-least p) a
+
+-- pages 0 is level 0
+pub level-for-none : (p : ℕ) → p ≡ 0 → levelFor p ≡ 0
+unfolding levelFor
+level-for-none zero e = refl
+level-for-none (suc p) e = absurd (omega arith)
+
+-- any other number is the smallest level whose block has that many pages and one more
+pub level-for-least : (p : ℕ) → 0 < p → Least (p + 1) (levelFor p)
+unfolding levelFor
+level-for-least zero q = absurd (omega arith)
+level-for-least (suc p) q = least-level-least (suc p + 1)
+
+pub level-for-named : (p : ℕ) → 0 < p → levelFor p ≡ leastLevel (p + 1)
+level-for-named p q = sym (least-level-is (p + 1) (levelFor p) (level-for-least p q))
+
+-- so pages of which the reserve has one more take a level that it has
+pub level-for-le : (p h : ℕ) → p < 2 ^ h → levelFor p ≤ h
+level-for-le zero h q = rw (level-for-none 0 refl) (omega arith)
+level-for-le (suc p) h q = level-for-least (suc p) (omega arith) .smallest h (omega arith)
+
+-- and all others a level that it lacks
+pub level-for-above : (p h : ℕ) → 2 ^ h ≤ p → h < levelFor p
+level-for-above p h q = go (level-for-least p (omega (arith, pow-pos h))) (decLt h (levelFor p))
+  where
+    go : Least (p + 1) (levelFor p) → Dec (h < levelFor p) → h < levelFor p
+    go a (yes r) = r
+    go a (no nr) = absurd (omega (arith, a .enough, pow-mono (not-lt nr)))
+      where
+        not-lt : ¬ (h < levelFor p) → levelFor p ≤ h
+        not-lt f = omega arith
 
 -- two pages or more: the level above the depth of one page less
 pub least-by-depth : (p : ℕ) → 1 < p → Least p (depth (p - 1) + 1)

@@ -11,6 +11,7 @@ pub mod Reported
 pub mod Box
 pub mod Demand
 pub mod Accepted
+pub mod Pages
 pub mod Opening
 pub mod Given
 pub mod Carried

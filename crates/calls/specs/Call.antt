@@ -1,6 +1,6 @@
--- The calls with their arguments. Document 01, "Calls".
+-- The calls with their arguments. Document 01, "Calls", and for the level that pages take document 02, L1.
 use mathlib.Core.Bool.{cond}
-use Prim.Native.Nat.{ℕ, zero, suc, _^_}
+use Prim.Native.Nat.{ℕ, zero, suc, _+_, _^_}
 use lib.Dec.{leb}
 
 -- A grant by level (tenant, level), a grant by pages (tenant, pages), a release (tenant); the last number is that of the move entries lent.
@@ -14,9 +14,15 @@ abbrev pub leastFrom : ℕ → ℕ → ℕ → ℕ
 leastFrom l zero p = l
 leastFrom l (suc n) p = cond (leb p (2 ^ l)) l (leastFrom (suc l) n p)
 
--- the level that a number of pages asks for: the smallest whose block has that many; 0 pages get level 0
+-- the smallest level whose block has p pages
+unfoldable pub leastLevel : ℕ → ℕ
+leastLevel p = leastFrom 0 p p
+
+-- the level that a grant by pages takes: 0 names no size and takes level 0; any other number takes the smallest level whose block
+-- has that many pages and one more, the guard page
 unfoldable pub levelFor : ℕ → ℕ
-levelFor p = leastFrom 0 p p
+levelFor zero = 0
+levelFor (suc p) = leastLevel (suc p + 1)
 
 -- the tenant that a call names
 abbrev pub tenantOf : Call → ℕ

@@ -1,8 +1,9 @@
--- What each call answers and what it leaves in the table, for every height, table and argument. Document 01, "Calls" and "Refusals by place".
+-- What each call answers and what it leaves in the table, for every height, table and argument. Document 01, "Calls" and "Refusals by place";
+-- refusal 6 as document 02, L1, has it.
 use mathlib.Core.Bool.{Bool, not, cond}
 use mathlib.Core.List.{List, [], _∷_, _++_}
 use Prim.Native.Nat.{ℕ, zero, suc, _+_, _^_}
-use lib.Dec.{eqb, ltb}
+use lib.Dec.{eqb, ltb, leb}
 use lib.ListN.{length, set, replicate}
 use Rattle.tree.specs.Node.{level}
 use Rattle.tree.specs.Held.{Nodes}
@@ -51,10 +52,14 @@ reserve-checks h T = length-checks h (length T)
 abbrev pub list-checks : ℕ → ℕ → List Check
 list-checks t m = check 3 (ltb m 4) ∷ check 4 (ltb 4095 t) ∷ []
 
+-- 6 for p pages: from 2^h upwards, since the guard page has to go in too; so never for 0
+abbrev pub pages-check : ℕ → ℕ → Check
+pages-check h p = check 6 (leb (2 ^ h) p)
+
 -- 5 and 6
 abbrev pub size-checks : ℕ → Call → List Check
 size-checks h (grant-level t l m) = check 5 (ltb h l) ∷ []
-size-checks h (grant-pages t p m) = check 6 (ltb (2 ^ h) p) ∷ []
+size-checks h (grant-pages t p m) = pages-check h p ∷ []
 size-checks h (release t m) = []
 
 -- 3 to 6: those by which a request or a release is not valid

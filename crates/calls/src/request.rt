@@ -2,7 +2,7 @@
 ghost use mathlib.Core.Path.{_≡_};
 ghost use mathlib.Core.List.{_++_};
 ghost use Prim.Native.Nat.{_≤_};
-ghost use Rattle.calls.specs.Call.{levelFor};
+ghost use Rattle.calls.specs.Call.{leastLevel, levelFor};
 ghost use Rattle.calls.specs.Step.{first, length-checks, list-checks, size-checks, validity};
 ghost use Rattle.calls.specs.Value.{callOf};
 use crate::Call;
@@ -21,14 +21,30 @@ const LAST_TENANT: u16 = 4095;
 // The fewest move entries that a grant or a release takes.
 pub const LEAST_ENTRIES: usize = 4;
 
-// The level that a number of pages asks for: the smallest whose block has that many.
-pub fn level_for(pages: u16) -> u16
-    ensures { λ r. ⌜ r ≡ levelFor pages ⌝ }
+// The level of an image that names no size.
+const LEVEL_OF_NO_SIZE: u16 = 0;
+
+// The pages behind an image that are its own too, where it names its size.
+const GUARD_PAGES: u32 = 1;
+
+// The smallest level whose block has so many pages.
+fn least_level(pages: u32) -> u16
+    ensures { λ r. ⌜ r ≡ leastLevel pages ⌝ }
 {
     if pages <= 1 {
         return 0;
     }
-    tree::depth(pages - 1) + 1
+    32 - (u32::leading_zeros(pages - 1) as u16)
+}
+
+// The level that a number of pages takes: the smallest whose block has them and the guard page. 0 names no size.
+pub fn level_for(pages: u16) -> u16
+    ensures { λ r. ⌜ r ≡ levelFor pages ⌝ }
+{
+    if pages == 0 {
+        return LEVEL_OF_NO_SIZE;
+    }
+    least_level((pages as u32) + GUARD_PAGES)
 }
 
 // The number of the first of refusals 1 and 2 that applies, or 0.
@@ -76,7 +92,7 @@ fn size_refusal(height: u16, call: Call) -> u16
     match call {
         Call::GrantLevel { tenant: _, level } => { if height < level { LEVEL } else { 0 } }
         Call::GrantPages { tenant: _, pages } => {
-            if layout::power(height) < pages {
+            if layout::power(height) <= pages {
                 PAGES
             } else {
                 0

@@ -1,7 +1,8 @@
-// Makes the calls that document 01 gives to check against, and those at the edges of their arguments. A line for each call, as in the listing
+// Makes the calls that document 01 gives to check against, and those at the edges of their arguments, for pages as document 02 has them. A line for each call, as in the listing
 // but without its ordinal: kind, height or tenant, level or pages, answer, node, number of moves, each move. A line with = has the entries
 // of the table that are not 0, as tenant:node. The file stdout holds what document 01 says of them. The calls go through the functions that
 // the C door and the listing use.
+ghost use Prim.Native.Nat.{_≤_};
 use calls::Answer;
 use calls::Call;
 use calls::Called;
@@ -56,19 +57,19 @@ fn height_5() {
     show(table);
 }
 
-// Pages that fall between two levels, until there is no room; a holder is refused as such even then.
+// Pages with their guard page, and pages 0 without, until there is no room; a holder is refused as such even then.
 fn by_pages() {
     text(b"# by pages\n");
     let mut space = [0u16; 4096];
     let table: &mut [u16] = &mut space;
     open(3, table);
     grant_pages(3, table, 4, 0, 3);
-    grant_pages(3, table, 4, 1, 2);
+    grant_pages(3, table, 4, 1, 1);
     grant_pages(3, table, 4, 2, 0);
-    grant_pages(3, table, 4, 3, 1);
+    grant_pages(3, table, 4, 3, 0);
     grant_pages(3, table, 4, 4, 1);
+    grant_pages(3, table, 4, 3, 7);
     grant_pages(3, table, 4, 3, 8);
-    grant_pages(3, table, 4, 3, 9);
     release(3, table, 4, 2);
     show(table);
 }
@@ -133,21 +134,53 @@ fn levels() {
     show(table);
 }
 
-// Pages 0, 2^h and 2^h + 1.
+// Sizes at their edges, at every height.
 fn pages() {
     text(b"# pages\n");
     let mut space = [0u16; 4096];
     let table: &mut [u16] = &mut space;
-    open(12, table);
-    grant_pages(12, table, 4, 0, 4097);
-    grant_pages(12, table, 4, 0, 4096);
-    release(12, table, 4, 0);
-    grant_pages(12, table, 4, 0, 0);
-    grant_pages(12, table, 4, 1, 4096);
-    open(0, table);
-    grant_pages(0, table, 4, 0, 2);
-    grant_pages(0, table, 4, 0, 1);
+    sizes(0, table, 1);
+    sizes(1, table, 2);
+    sizes(2, table, 4);
+    sizes(3, table, 8);
+    sizes(4, table, 16);
+    sizes(5, table, 32);
+    sizes(6, table, 64);
+    sizes(7, table, 128);
+    sizes(8, table, 256);
+    sizes(9, table, 512);
+    sizes(10, table, 1024);
+    sizes(11, table, 2048);
+    sizes(12, table, 4096);
     show(table);
+}
+
+// Pages 0, 1, and from two fewer than the reserve has to one more; and the most that can be named.
+fn sizes(height: u16, table: &mut [u16], all: u16)
+    requires { ⌜ (1 ≤ all) × (all ≤ 4096) ⌝ }
+{
+    open(height, table);
+    size(height, table, 0);
+    size(height, table, 1);
+    two_fewer(height, table, all);
+    size(height, table, all - 1);
+    size(height, table, all);
+    size(height, table, all + 1);
+    size(height, table, 65535);
+}
+
+// Two pages fewer, if there are two.
+fn two_fewer(height: u16, table: &mut [u16], all: u16) {
+    if all < 2 {
+        return;
+    }
+    size(height, table, all - 2);
+}
+
+// A size asked of an empty reserve, and given back.
+fn size(height: u16, table: &mut [u16], pages: u16) {
+    grant_pages(height, table, 4, 0, pages);
+    release(height, table, 4, 0);
 }
 
 // Four entries lent for moves, and three.
@@ -230,7 +263,7 @@ fn full() {
     grant(12, table, 4, 4095, 0);
     release(12, table, 4, 0);
     grant(12, table, 4, 0, 1);
-    grant_pages(12, table, 4, 0, 1);
+    grant_pages(12, table, 4, 0, 0);
 }
 
 fn fill(table: &mut [u16]) {

@@ -15,7 +15,7 @@ pub const TENANT: u16 = 4;
 // The level is above the height.
 pub const LEVEL: u16 = 5;
 
-// The pages are more than the reserve has.
+// The pages with their guard page are more than the reserve has.
 pub const PAGES: u16 = 6;
 
 // The table is none that the planner leaves.

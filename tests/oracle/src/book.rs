@@ -6,7 +6,7 @@
 use crate::definitions::{Counts, Node, Tree};
 use crate::lifting;
 use crate::occupancy::is_legal_and_safe;
-use crate::planner::{level_for_pages, Request, FEWEST_ENTRIES, TENANTS};
+use crate::planner::{level_for_pages, too_many_pages, Request, FEWEST_ENTRIES, TENANTS};
 use crate::refusal::{Refusal, DONE};
 
 #[derive(Clone, Debug)]
@@ -71,7 +71,7 @@ impl Book {
     fn why_not_valid(&self, request: Request, entries: usize) -> Option<Refusal> {
         let wrong_size = match request {
             Request::GrantLevel { level, .. } if level > self.tree.height() => Some(Refusal::Level),
-            Request::GrantPages { pages, .. } if pages > self.tree.pages_in_all() => Some(Refusal::Pages),
+            Request::GrantPages { pages, .. } if too_many_pages(self.tree, pages) => Some(Refusal::Pages),
             _ => None,
         };
         let conditions = [

@@ -245,7 +245,7 @@ impl<'a> Author<'a> {
             },
             2 | 3 => Request::GrantPages {
                 tenant,
-                pages: self.above(tree.pages_in_all(), self.reach.pages),
+                pages: self.above(tree.pages_in_all() - 1, self.reach.pages),
             },
             _ => Request::Release { tenant },
         }
@@ -266,11 +266,10 @@ impl<'a> Author<'a> {
         if self.random.one_in(2) {
             return Request::GrantLevel { tenant, level };
         }
-        let most = 1 << level;
-        let fewest = most / 2 + 1;
+        // A block of this level is the smallest for half its pages and up to all but the guard page; one page is for no size.
         let pages = match level {
-            0 => self.random.below(2),
-            _ => fewest + self.random.below(most - fewest + 1),
+            0 => 0,
+            _ => (1 << (level - 1)) + self.random.below(1 << (level - 1)),
         };
         Request::GrantPages { tenant, pages }
     }

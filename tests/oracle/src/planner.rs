@@ -78,11 +78,21 @@ pub fn call(lent: Lent, request: Request) -> Outcome {
     outcome(lent.table, plan(lent, request))
 }
 
-/// The level of the smallest block with room for so many pages. Without a size given that is a single page.
+/// The level of the smallest block with room for so many pages and the guard page behind them. Without a size given that
+/// is a single page.
 pub fn level_for_pages(pages: u32) -> u32 {
+    if pages == 0 {
+        return 0;
+    }
+    let needed = u64::from(pages) + 1;
     (0..)
-        .find(|&level| 1u64 << level >= u64::from(pages))
+        .find(|&level| 1u64 << level >= needed)
         .expect("some power of two is large enough")
+}
+
+/// Whether a named size is refused as such: from as many pages as the reserve has, which leave none for the guard page.
+pub(crate) fn too_many_pages(tree: Tree, pages: u32) -> bool {
+    pages >= tree.pages_in_all()
 }
 
 fn outcome(before: &[Node], result: Result<Plan, Refusal>) -> Outcome {
@@ -121,7 +131,7 @@ fn check_request(tree: Tree, entries: usize, request: Request) -> Result<(), Ref
     }
     match request {
         Request::GrantLevel { level, .. } if level > tree.height() => Err(Refusal::Level),
-        Request::GrantPages { pages, .. } if pages > tree.pages_in_all() => Err(Refusal::Pages),
+        Request::GrantPages { pages, .. } if too_many_pages(tree, pages) => Err(Refusal::Pages),
         _ => Ok(()),
     }
 }

@@ -1,4 +1,4 @@
-//! Everything that document 01 gives as an example, an edge or a mistake.
+//! Everything that documents 01 and 02 give as an example, an edge or a mistake.
 
 use oracle::definitions::{is_free, is_legal, Counts, Node, Tree};
 use oracle::generate::journal_of;
@@ -186,9 +186,9 @@ fn arguments_are_judged_in_the_order_of_their_numbers() {
         assert_eq!(answer(12, &ruined, 4, request), 4);
     }
     assert_eq!(answer(12, &ruined, 4, grant(4095, 13)), 5);
-    assert_eq!(answer(12, &ruined, 4, grant_pages(4095, 4097)), 6);
+    assert_eq!(answer(12, &ruined, 4, grant_pages(4095, 4096)), 6);
     assert_eq!(answer(12, &ruined, 4, grant(4095, 12)), 7);
-    assert_eq!(answer(12, &ruined, 4, grant_pages(4095, 4096)), 7);
+    assert_eq!(answer(12, &ruined, 4, grant_pages(4095, 4095)), 7);
     assert_eq!(answer(12, &ruined, 4, release(4095)), 7);
 }
 
@@ -201,14 +201,10 @@ fn edges_of_the_arguments() {
     assert_eq!(planner::open(0, &empty[1..]).answer, 2);
     assert_eq!(planner::open(0, &[0; TENANTS + 1]).answer, 2);
     for height in 0..=12 {
-        let pages = 1 << height;
         assert_eq!(call(height, &empty, grant(4095, 0)).answer, 0);
         assert_eq!(call(height, &empty, grant(4096, 0)).answer, 4);
         assert_eq!(call(height, &empty, grant(0, height)).node, 1);
         assert_eq!(call(height, &empty, grant(0, height + 1)).answer, 5);
-        assert_eq!(call(height, &empty, grant_pages(0, 0)).node, pages as Node);
-        assert_eq!(call(height, &empty, grant_pages(0, pages)).node, 1);
-        assert_eq!(call(height, &empty, grant_pages(0, pages + 1)).answer, 6);
     }
     let three = Lent {
         height: 0,
@@ -229,11 +225,29 @@ fn opening_empties_any_table() {
 }
 
 #[test]
-fn pages_are_rounded_up_to_a_block() {
-    let levels = [0, 1, 2, 3, 4, 5, 8, 9, 4095, 4096].map(planner::level_for_pages);
-    assert_eq!(levels, [0, 0, 1, 2, 2, 3, 3, 4, 12, 12]);
+fn pages_and_a_guard_page_are_rounded_up_to_a_block() {
+    let levels = [0, 1, 2, 3, 4, 7, 8, 2047, 2048, 4095, 4096, 65_535].map(planner::level_for_pages);
+    assert_eq!(levels, [0, 1, 2, 2, 3, 3, 4, 11, 12, 12, 13, 16]);
     let empty = table(&[]);
     assert_eq!(call(3, &empty, grant_pages(0, 3)).node, 2);
+}
+
+#[test]
+fn named_sizes_leave_a_page_for_the_guard() {
+    let empty = table(&[]);
+    for height in 0..=12 {
+        let all = 1 << height;
+        let get = |pages| call(height, &empty, grant_pages(0, pages));
+        assert_eq!(get(0).node, all as Node);
+        for pages in [all, all + 1, 65_535] {
+            assert_eq!(get(pages).answer, 6, "{pages} pages at height {height}");
+        }
+        // At height 0 the only page would have to be the guard page.
+        if height > 0 {
+            assert_eq!(get(all - 1).node, 1);
+            assert_eq!(get(1).node, all as Node / 2);
+        }
+    }
 }
 
 #[test]

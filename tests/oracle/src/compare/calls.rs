@@ -16,7 +16,7 @@ use crate::shrink::shorten;
 use crate::subject::{ask, moves_from, table_from, table_image, Oracle, Reply, Subject, MOVE_BYTES, TABLE_BYTES};
 
 /// The move list that suffices for every call.
-const ENOUGH: usize = FEWEST_ENTRIES * MOVE_BYTES;
+pub(super) const ENOUGH: usize = FEWEST_ENTRIES * MOVE_BYTES;
 
 /// What both planners made of a call.
 pub struct Same {
@@ -115,7 +115,7 @@ fn check_against_book(
 }
 
 /// Runs a history and, should it fail, tells the shortest one found that fails.
-fn check_history(subject: &mut dyn Subject, history: &History) -> Result<Vec<Node>, String> {
+pub(super) fn check_history(subject: &mut dyn Subject, history: &History) -> Result<Vec<Node>, String> {
     same_history(subject, history).map_err(|failure| explain(subject, history, &failure))
 }
 
@@ -129,20 +129,12 @@ fn explain(subject: &mut dyn Subject, history: &History, failure: &Failure) -> S
 }
 
 /// Shortens a failing history: nothing after the failure, a smaller tree if that fails too, fewer holders at the start
-/// and fewer calls.
+/// and fewer calls, and for these a smaller tree once more.
 pub fn shortened(subject: &mut dyn Subject, history: &History, failure: &Failure) -> History {
     let mut short = history.clone();
     let mut fails = |history: &History| same_history(subject, history).is_err();
     short.calls.truncate(failure.call);
-    let smaller = |height| History {
-        height,
-        ..short.clone()
-    };
-    if short.start.is_none() {
-        if let Some(height) = (0..short.height).find(|&height| fails(&smaller(height))) {
-            short.height = height;
-        }
-    }
+    short = on_smallest_tree(short, &mut fails);
     let calls = shorten(&short.calls, |calls| {
         fails(&History {
             calls: calls.to_vec(),
@@ -159,7 +151,21 @@ pub fn shortened(subject: &mut dyn Subject, history: &History, failure: &Failure
         });
         short.start = Some(holders);
     }
-    short
+    on_smallest_tree(short, &mut fails)
+}
+
+/// A failing history that begins with an opening, on the smallest tree on which it fails; any other as it is.
+fn on_smallest_tree(history: History, fails: &mut impl FnMut(&History) -> bool) -> History {
+    let lower = match history.start {
+        None => 0..history.height,
+        Some(_) => 0..0,
+    };
+    let on = |height| History {
+        height,
+        ..history.clone()
+    };
+    let smallest = lower.map(on).find(|smaller| fails(smaller));
+    smallest.unwrap_or(history)
 }
 
 /// Every counts vector of the small trees, with every grant and every release.
@@ -194,18 +200,14 @@ fn every_request(random: &mut Random, tree: Tree, table: &[Node]) -> Vec<Request
     let newcomer = random.pick(&others);
     requests.push(Request::Release { tenant: newcomer });
     for tenant in holders.first().copied().into_iter().chain([newcomer]) {
-        requests.push(Request::GrantPages { tenant, pages: 0 });
         for level in tree.levels() {
             requests.push(Request::GrantLevel { tenant, level });
-            requests.push(Request::GrantPages {
-                tenant,
-                pages: 1 << level,
-            });
+            // The last size that a block of the level serves, and the first that it does not.
+            let past = 1 << level;
+            requests.extend([past - 1, past].map(|pages| Request::GrantPages { tenant, pages }));
         }
-        requests.push(Request::GrantPages {
-            tenant,
-            pages: tree.pages_in_all() / 2 + 1,
-        });
+        let pages = tree.pages_in_all() / 2 + 1;
+        requests.push(Request::GrantPages { tenant, pages });
     }
     requests
 }
@@ -272,7 +274,7 @@ fn requests_on(random: &mut Random, tree: Tree, table: &[Node]) -> [Request; 3] 
         random.pick(&entered)
     };
     let level = random.below(tree.height() + 1);
-    let pages = random.below(tree.pages_in_all() + 1);
+    let pages = random.below(tree.pages_in_all());
     [
         Request::GrantLevel { tenant, level },
         Request::GrantPages { tenant, pages },
@@ -364,7 +366,7 @@ fn newcomer_gets_the_same(
     let by_level = tree.levels().map(|level| Request::GrantLevel { tenant, level });
     let by_pages = tree.levels().map(|level| Request::GrantPages {
         tenant,
-        pages: 1 << level,
+        pages: (1 << level) - 1,
     });
     for request in by_level.chain(by_pages) {
         let fits = level_wanted(request).is_some_and(|level| 1 << level <= book.room());

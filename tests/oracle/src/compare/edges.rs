@@ -1,10 +1,10 @@
 //! Arguments at and beside their bounds.
 
-use super::calls::{same_call, same_opening};
+use super::calls::{check_history, same_call, same_opening, ENOUGH};
 use super::Amounts;
-use crate::definitions::TALLEST;
-use crate::generate::Call;
-use crate::planner::Request;
+use crate::definitions::{Counts, Tree, TALLEST};
+use crate::generate::{holders_for, Call, History};
+use crate::planner::{level_for_pages, Request, TENANTS};
 use crate::random::Random;
 use crate::subject::{Reach, Subject};
 
@@ -43,7 +43,7 @@ fn edge_calls(reach: Reach, height: u32) -> Vec<Call> {
     let pages_in_all = 1u32.checked_shl(height).unwrap_or(1 << TALLEST);
     let tenants = up_to(reach.tenant, [0, 4095, 4096, 0xffff, 0x1_0000, 0x1_0fff]);
     let levels = up_to(reach.level, [0, height, height.saturating_add(1), 255, 0x100, 0x1_0000]);
-    let pages = up_to(reach.pages, [0, 1, pages_in_all, pages_in_all + 1, 0xffff]);
+    let pages = up_to(reach.pages, sizes_beside(pages_in_all));
     let mut requests = Vec::new();
     for tenant in tenants {
         requests.push(Request::Release { tenant });
@@ -57,6 +57,66 @@ fn edge_calls(reach: Reach, height: u32) -> Vec<Call> {
             .map(move |request| Call { request, move_bytes })
     };
     MOVE_LENGTHS.into_iter().flat_map(with_length).collect()
+}
+
+/// Sizes at and beside the number of pages that there are.
+fn sizes_beside(pages_in_all: u32) -> [u32; 7] {
+    let all = pages_in_all;
+    [0, 1, all.saturating_sub(2), all - 1, all, all + 1, 0xffff]
+}
+
+/// Grants by pages at every height, with sizes at and beside their bounds: on an empty reserve, where the block just fits, and
+/// where it lacks a page; to a newcomer and to a holder.
+pub fn sizes(subject: &mut dyn Subject, _: &Amounts, random: &mut Random) -> Result<usize, String> {
+    let mut comparisons = 0;
+    for tree in (0..=TALLEST).map(Tree::new) {
+        let all = tree.pages_in_all();
+        for pages in sizes_beside(all) {
+            let block = 1 << level_for_pages(pages).min(tree.height());
+            for room in [all, block, block - 1] {
+                comparisons += check_size(subject, random, tree, room, pages)?;
+            }
+        }
+    }
+    Ok(comparisons)
+}
+
+/// Asks for a size where so many pages are left, for a tenant that holds nothing and for one that holds a block.
+fn check_size(
+    subject: &mut dyn Subject,
+    random: &mut Random,
+    tree: Tree,
+    room: u32,
+    pages: u32,
+) -> Result<usize, String> {
+    let holders = holders_for(random, &all_but(tree, room));
+    let newcomer = (0..TENANTS as u16).find(|&tenant| holders.iter().all(|holder| holder.tenant != tenant));
+    let tenants = newcomer.into_iter().chain(holders.first().map(|holder| holder.tenant));
+    let mut comparisons = 0;
+    for tenant in tenants.map(u32::from) {
+        let call = Call {
+            request: Request::GrantPages { tenant, pages },
+            move_bytes: ENOUGH,
+        };
+        let history = History {
+            height: tree.height(),
+            start: Some(holders.clone()),
+            calls: vec![call],
+        };
+        check_history(subject, &history)?;
+        comparisons += 1;
+    }
+    Ok(comparisons)
+}
+
+/// The fewest blocks that leave so many pages of a reserve.
+fn all_but(tree: Tree, room: u32) -> Counts {
+    let held = tree.pages_in_all() - room;
+    let mut counts = Counts::default();
+    for (level, count) in tree.levels().zip(&mut counts) {
+        *count = held >> level & 1;
+    }
+    counts
 }
 
 /// The numbers of a list that a door takes, and the largest it takes.

@@ -93,7 +93,7 @@ pub struct Tally {
 /// One part of the comparison. It gives the number of comparisons, or what it found.
 type Part = fn(&mut dyn Subject, &Amounts, &mut Random) -> Result<usize, String>;
 
-const PARTS: [(&str, Part); 10] = [
+const PARTS: [(&str, Part); 11] = [
     ("edges of the arguments", edges::edges),
     ("every counts vector", calls::every_counts),
     ("histories", calls::histories),
@@ -104,6 +104,7 @@ const PARTS: [(&str, Part); 10] = [
     ("journal records", journals::records),
     ("journals", journals::journals),
     ("pages of nodes", nodes::nodes),
+    ("edges of the sizes", edges::sizes),
 ];
 
 /// The random numbers of one part, the same whichever parts ran before.

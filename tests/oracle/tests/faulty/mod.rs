@@ -42,13 +42,18 @@ pub enum Fault {
     TenantBeforeTheList,
     TenantCutToTwelveBits,
     PagesBeforeTheTenant,
-    NoPagesRefused,
-    PagesRoundedDown,
     LongerTableTaken,
     LongerMoveListRefused,
     TallerTreeTaken,
     OpeningLeavesTheTable,
     OpeningWantsAnOrderlyTable,
+    // Which block a number of pages gets.
+    NoPagesRefused,
+    PagesRoundedDown,
+    NoGuardPage,
+    GuardPageForNoSize,
+    TwoGuardPages,
+    WholeReserveTaken,
     // The pages of a node.
     LastPageForTheFirst,
     OnePageTooMany,
@@ -101,7 +106,7 @@ impl Fault {
         Fault::RefusalReportsANode,
         Fault::ReleaseReportsNoNode,
     ];
-    pub const REFUSALS: [Fault; 15] = [
+    pub const REFUSALS: [Fault; 13] = [
         Fault::NoRoomToEveryone,
         Fault::NoRoomForTheLastPage,
         Fault::NoRoomWhereThreeWouldMove,
@@ -110,13 +115,19 @@ impl Fault {
         Fault::TenantBeforeTheList,
         Fault::TenantCutToTwelveBits,
         Fault::PagesBeforeTheTenant,
-        Fault::NoPagesRefused,
-        Fault::PagesRoundedDown,
         Fault::LongerTableTaken,
         Fault::LongerMoveListRefused,
         Fault::TallerTreeTaken,
         Fault::OpeningLeavesTheTable,
         Fault::OpeningWantsAnOrderlyTable,
+    ];
+    pub const SIZES: [Fault; 6] = [
+        Fault::NoPagesRefused,
+        Fault::PagesRoundedDown,
+        Fault::NoGuardPage,
+        Fault::GuardPageForNoSize,
+        Fault::TwoGuardPages,
+        Fault::WholeReserveTaken,
     ];
     pub const NODES: [Fault; 4] = [
         Fault::LastPageForTheFirst,
@@ -326,19 +337,13 @@ impl Faulty {
                 ask(&mut Oracle, height, table, moves, Request::Release { tenant })
             }
             (Fault::PagesBeforeTheTenant, Request::GrantPages { pages, .. })
-                if reserve_is_fine && list_is_fine && pages > 1 << height =>
+                if reserve_is_fine && list_is_fine && pages >= 1 << height =>
             {
                 refused(Refusal::Pages)
             }
-            (Fault::NoPagesRefused, Request::GrantPages { tenant, pages: 0 }) => {
-                let pages = u16::MAX.into();
-                ask(&mut Oracle, height, table, moves, Request::GrantPages { tenant, pages })
-            }
-            (Fault::PagesRoundedDown, Request::GrantPages { tenant, pages })
-                if reserve_is_fine && 0 < pages && pages <= 1 << height =>
-            {
-                let level = pages.ilog2();
-                ask(&mut Oracle, height, table, moves, Request::GrantLevel { tenant, level })
+            (_, Request::GrantPages { tenant, pages }) if reserve_is_fine && Fault::SIZES.contains(&self.0) => {
+                let request = self.other_size(height, tenant, pages);
+                ask(&mut Oracle, height, table, moves, request)
             }
             (Fault::LongerTableTaken, _) if table.len() > TABLE_BYTES => {
                 ask(&mut Oracle, height, &mut table[..TABLE_BYTES], moves, request)
@@ -352,6 +357,23 @@ impl Faulty {
             _ => return None,
         };
         Some(reply)
+    }
+
+    /// What is asked for instead of a number of pages.
+    fn other_size(&self, height: u32, tenant: u32, pages: u32) -> Request {
+        let all = 1 << height;
+        let by_level = |level| Request::GrantLevel { tenant, level };
+        let by_pages = |pages| Request::GrantPages { tenant, pages };
+        match (self.0, pages) {
+            (Fault::NoPagesRefused, 0) => by_pages(all),
+            (Fault::GuardPageForNoSize, 0) => by_pages(1),
+            (_, 0) => by_pages(0),
+            (Fault::PagesRoundedDown, _) if pages < all => by_level(pages.ilog2()),
+            (Fault::NoGuardPage, _) if pages < all => by_level(pages.next_power_of_two().ilog2()),
+            (Fault::TwoGuardPages, _) => by_pages(pages + 1),
+            (Fault::WholeReserveTaken, _) if pages == all => by_level(height),
+            _ => by_pages(pages),
+        }
     }
 
     /// Looks at the tenant's own entry before the whole table.

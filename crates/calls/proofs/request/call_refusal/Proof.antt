@@ -1,24 +1,16 @@
 -- `calls::request::call_refusal` meets its contract: what 1 to 4 decide, and else what 5 and 6 do.
 use mathlib.Core.Path.{sym, _∙_}
 use mathlib.Core.Bool.{not}
-use mathlib.Core.List.{List, _∷_, _++_}
-use Prim.Native.Nat.{ℕ}
+use mathlib.Core.List.{_∷_}
 use native.Mathlib.Omega.{arith}
 use borrow.Author.Needs.{needs}
 use borrow.Author.Tests.{ltb-false}
 use lib.Dec.{eqb, ltb}
-use Rattle.calls.specs.Step.{Check, check, length-checks, list-checks, size-checks}
+use Rattle.calls.specs.Step.{check, list-checks, size-checks}
 use Rattle.calls.specs.Value.{callOf}
-use Rattle.calls.proofs.Checks.{Numbered, first-after-none, first-stands, not-applied, validity-parts}
+use Rattle.calls.proofs.Checks.{four, four-numbered, first-after-none, first-stands, not-applied, validity-parts}
 use Rattle.calls.proofs.request.call_refusal.Statement.{statement}
 use Rattle.calls.proofs.request.call_refusal.Tie as tie
-
--- 1 to 4
-abbrev four : ℕ → ℕ → ℕ → ℕ → List Check
-four h n t m = length-checks h n ++ list-checks t m
-
-four-numbered : (h n t m : ℕ) → Numbered (four h n t m)
-four-numbered h n t m = (omega arith, (omega arith, (omega arith, (omega arith, tt))))
 
 tenant-requires : tie.Need-tenant-requires
 tenant-requires c κs = search needs

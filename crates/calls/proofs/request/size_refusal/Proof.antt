@@ -1,6 +1,6 @@
 -- `calls::request::size_refusal` meets its contract: each kind of call has its check.
 use borrow.Author.Needs.{needs}
-use borrow.Author.Tests.{lt-ltb, le-ltb}
+use borrow.Author.Tests.{lt-ltb, le-ltb, le-leb, lt-leb}
 use Rattle.calls.proofs.request.size_refusal.Statement.{statement}
 use Rattle.calls.proofs.request.size_refusal.Tie as tie
 
@@ -23,10 +23,10 @@ returns-2 : tie.Need-returns-2
 returns-2 c = rw (c .before .before .call .given .1, le-ltb _ _ (c .if1 .left))
 
 returns-3 : tie.Need-returns-3
-returns-3 c = rw (c .before .before .before .call2 .given .1, lt-ltb _ _ (rw (c .before .power .ensures) at (c .if2 .taken)))
+returns-3 c = rw (c .before .before .before .call2 .given .1, le-leb _ _ (rw (c .before .power .ensures) at (c .if2 .taken)))
 
 returns-4 : tie.Need-returns-4
-returns-4 c = rw (c .before .before .before .call2 .given .1, le-ltb _ _ (rw (c .before .power .ensures) at (c .if2 .left)))
+returns-4 c = rw (c .before .before .before .call2 .given .1, lt-leb _ _ (rw (c .before .power .ensures) at (c .if2 .left)))
 
 returns-5 : tie.Need-returns-5
 returns-5 c = search needs
