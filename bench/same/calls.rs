@@ -12,6 +12,7 @@ pub struct Done {
 }
 
 /// Grants a block of the level, or gives the number of the refusal.
+#[inline(always)]
 pub fn grant(height: u16, table: &mut [u16; TENANTS], tenant: u16, level: u16) -> Result<Done, u16> {
     let mut owners = [0; NODES];
     let mut counts = survey(height, table, &mut owners).ok_or(7u16)?;
