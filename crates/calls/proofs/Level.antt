@@ -33,7 +33,7 @@ least-from l (suc n) p q s = go (leb p (2 ^ l)) refl (λ s′. least-from (suc l
             not-lt : ¬ (l < m) → m ≤ l
             not-lt f = omega arith
 
-pub le-pow : (p : ℕ) → p ≤ 2 ^ p
+le-pow : (p : ℕ) → p ≤ 2 ^ p
 le-pow zero = omega arith
 le-pow (suc p) = rw pow-suc (omega (arith, le-pow p, pow-pos p))
 
@@ -53,7 +53,7 @@ unfolding levelFor
 level-for-none zero e = refl
 level-for-none (suc p) e = absurd (omega arith)
 
--- any other number is the smallest level whose block has that many pages and one more
+-- any other number takes the smallest level whose block has that many pages and one more
 pub level-for-least : (p : ℕ) → 0 < p → Least (p + 1) (levelFor p)
 unfolding levelFor
 level-for-least zero q = absurd (omega arith)

@@ -1,7 +1,7 @@
-// Makes the calls that document 01 gives to check against, and those at the edges of their arguments, for pages as document 02 has them. A line for each call, as in the listing
+// Makes the calls that document 01 gives to check against, and those at the edges of their arguments. A line for each call, as in the listing
 // but without its ordinal: kind, height or tenant, level or pages, answer, node, number of moves, each move. A line with = has the entries
-// of the table that are not 0, as tenant:node. The file stdout holds what document 01 says of them. The calls go through the functions that
-// the C door and the listing use.
+// of the table that are not 0, as tenant:node. The file stdout holds what document 01 says of them, and of pages document 02. The calls go
+// through the functions that the C door and the listing use.
 ghost use Prim.Native.Nat.{_≤_};
 use calls::Answer;
 use calls::Call;

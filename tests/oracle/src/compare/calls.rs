@@ -8,7 +8,7 @@ use super::Amounts;
 use crate::audit::{audit, is_in_order, Seen, MOST_FOR_GRANT};
 use crate::book::{level_wanted, occupied, Book};
 use crate::definitions::{Node, Tree, TALLEST};
-use crate::generate::{any_fill, history, history_on_full, holders_for, seat, steer, Call, Damage, History};
+use crate::generate::{any_fill, history, history_on_full, holders_for, seat, steer, Call, Damage, History, Holder};
 use crate::planner::{Request, FEWEST_ENTRIES, TENANTS};
 use crate::random::Random;
 use crate::refusal::{Refusal, DONE};
@@ -16,7 +16,7 @@ use crate::shrink::shorten;
 use crate::subject::{ask, moves_from, table_from, table_image, Oracle, Reply, Subject, MOVE_BYTES, TABLE_BYTES};
 
 /// The move list that suffices for every call.
-pub(super) const ENOUGH: usize = FEWEST_ENTRIES * MOVE_BYTES;
+const ENOUGH: usize = FEWEST_ENTRIES * MOVE_BYTES;
 
 /// What both planners made of a call.
 pub struct Same {
@@ -115,7 +115,7 @@ fn check_against_book(
 }
 
 /// Runs a history and, should it fail, tells the shortest one found that fails.
-pub(super) fn check_history(subject: &mut dyn Subject, history: &History) -> Result<Vec<Node>, String> {
+fn check_history(subject: &mut dyn Subject, history: &History) -> Result<Vec<Node>, String> {
     same_history(subject, history).map_err(|failure| explain(subject, history, &failure))
 }
 
@@ -176,21 +176,31 @@ pub fn every_counts(subject: &mut dyn Subject, amounts: &Amounts, random: &mut R
         for counts in tree.every_fitting_counts() {
             let holders = holders_for(random, &counts);
             for request in every_request(random, tree, &seat(tree, &holders)) {
-                let call = Call {
-                    request,
-                    move_bytes: ENOUGH,
-                };
-                let history = History {
-                    height,
-                    start: Some(holders.clone()),
-                    calls: vec![call],
-                };
-                check_history(subject, &history)?;
+                check_one(subject, height, &holders, request)?;
                 comparisons += 1;
             }
         }
     }
     Ok(comparisons)
+}
+
+/// Runs one call on a reserve that these tenants hold.
+pub(super) fn check_one(
+    subject: &mut dyn Subject,
+    height: u32,
+    holders: &[Holder],
+    request: Request,
+) -> Result<(), String> {
+    let call = Call {
+        request,
+        move_bytes: ENOUGH,
+    };
+    let history = History {
+        height,
+        start: Some(holders.to_vec()),
+        calls: vec![call],
+    };
+    check_history(subject, &history).map(|_| ())
 }
 
 /// Every grant and every release from a table, with the refused ones beside them.

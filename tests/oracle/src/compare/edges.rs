@@ -1,9 +1,9 @@
 //! Arguments at and beside their bounds.
 
-use super::calls::{check_history, same_call, same_opening, ENOUGH};
+use super::calls::{check_one, same_call, same_opening};
 use super::Amounts;
 use crate::definitions::{Counts, Tree, TALLEST};
-use crate::generate::{holders_for, Call, History};
+use crate::generate::{holders_for, Call};
 use crate::planner::{level_for_pages, Request, TENANTS};
 use crate::random::Random;
 use crate::subject::{Reach, Subject};
@@ -94,16 +94,7 @@ fn check_size(
     let tenants = newcomer.into_iter().chain(holders.first().map(|holder| holder.tenant));
     let mut comparisons = 0;
     for tenant in tenants.map(u32::from) {
-        let call = Call {
-            request: Request::GrantPages { tenant, pages },
-            move_bytes: ENOUGH,
-        };
-        let history = History {
-            height: tree.height(),
-            start: Some(holders.clone()),
-            calls: vec![call],
-        };
-        check_history(subject, &history)?;
+        check_one(subject, tree.height(), &holders, Request::GrantPages { tenant, pages })?;
         comparisons += 1;
     }
     Ok(comparisons)
