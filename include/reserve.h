@@ -14,9 +14,9 @@
  * and has to be done, from the first of the moves to the last, before the next call on the same table. reserve_node_pages
  * says which pages a node covers.
  *
- * A grant names its block by level or by pages. A tenant that names pages gets one more, a guard page at the end, in case it
- * runs over: p pages, p above 0, get the smallest block of p + 1 or more. 0 pages name no size and get a block of one page,
- * without a guard page. A block that is named by its level has just its 2^level pages.
+ * A grant names its block by level or by pages. A tenant that names pages gets one more, a guard page right behind them, in
+ * case it runs over: p pages, p above 0, get the smallest block of p + 1 or more. 0 pages name no size and get a block of one
+ * page, without a guard page. A block that is named by its level has just its 2^level pages.
  *
  * WHAT IS LENT
  *

@@ -11,7 +11,8 @@ pub struct Done {
     pub plan: Plan,
 }
 
-/// Grants a block of the level, or gives the number of the refusal.
+/// Grants a block of the level, or gives the number of the refusal. Both kinds of grant have it in their own code, so that
+/// neither is timed with a call more.
 #[inline(always)]
 pub fn grant(height: u16, table: &mut [u16; TENANTS], tenant: u16, level: u16) -> Result<Done, u16> {
     let mut owners = [0; NODES];

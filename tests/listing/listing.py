@@ -221,7 +221,8 @@ def check_listings(folder, long_journal, long_listing, drawn_journal, drawn_list
         check_listed(path.name, folder, path.read_bytes(), path.with_suffix(".listing").read_bytes())
     for name, journal, lines in edges():
         check_listed(name, folder, journal, text(lines))
-    for (name, journal, lines), by_oracle in zip(sizes(), listed_by_oracle(*(journal for _, journal, _ in sizes()))):
+    asked = list(sizes())
+    for (name, journal, lines), by_oracle in zip(asked, listed_by_oracle(*(journal for _, journal, _ in asked))):
         check_listed(name, folder, journal, text(lines))
         with check(f"{name}, by the second planner"):
             equal("its listing", by_oracle, text(lines))

@@ -1,4 +1,5 @@
-//! Everything that documents 01 and 02 give as an example, an edge or a mistake.
+//! Everything that document 01, as changed by the requests of document 02 that have landed, gives as an example, an edge
+//! or a mistake.
 
 use oracle::definitions::{is_free, is_legal, Counts, Node, Tree};
 use oracle::generate::journal_of;
