@@ -21,7 +21,7 @@ use Rattle.table.proofs.Moved.{Movable, room-of, moved-at}
 
 -- the shift s of a table, with the tenant that it moves
 abbrev pub moveBy : List ℕ → Shift → Move
-moveBy T s = record { tenant = ownerOf T (s .from); from = s .from; to = s .to }
+moveBy T s = record { tenant = ownerOf T (s .from); from = s .from; to = s .to; staged = 0 }
 
 -- m takes a tenant from its node to another
 pub record Moves (h : ℕ) (N : Nodes) (T : List ℕ) (m : Move) : Type 0 where

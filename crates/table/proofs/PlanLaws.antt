@@ -125,7 +125,7 @@ module _ {h : ℕ} {cs ds : List ℕ} {gone : ℕ} {T owners : List ℕ} (p : Re
       ∙ map-agrees (moveOf owners) _ (shifts h (occupied T) (layoutSet h ds)) same
     where
       same : (s : Shift) → In s (shifts h (occupied T) (layoutSet h ds))
-          → moveOf owners s ≡ record { tenant = ownerOf T (s .from); from = s .from; to = s .to }
+          → moveOf owners s ≡ record { tenant = ownerOf T (s .from); from = s .from; to = s .to; staged = 0 }
       same s m =
           let tenant : getD owners (s .from) 0 - 1 ≡ ownerOf T (s .from) =
           omega (arith, p .owned (s .from) (old-of-shift (room-of (p .movable)) s m .0)) in

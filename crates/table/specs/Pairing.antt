@@ -68,7 +68,7 @@ moved h N T = map (λ e. withNode e (goes (shifts h (occupied T) N) (nodeOf e)))
 
 -- the list of moves: each shift with the tenant that it moves
 unfoldable pub movesOf : ℕ → Nodes → List ℕ → List Move
-movesOf h N T = map (λ s. record { tenant = ownerOf T (s .from); from = s .from; to = s .to }) (shifts h (occupied T) N)
+movesOf h N T = map (λ s. record { tenant = ownerOf T (s .from); from = s .from; to = s .to; staged = 0 }) (shifts h (occupied T) N)
 
 -- the table with the moves of a list carried out, entry by entry
 unfoldable pub written : List ℕ → List Move → List ℕ

@@ -50,7 +50,7 @@ movesIn p = take (p .n) (p .moves)
 
 -- what an entry holds that no move stands in, and what stands for a move past the end of a list
 abbrev pub no-move : Move
-no-move = record { tenant = 0; from = 0; to = 0 }
+no-move = record { tenant = 0; from = 0; to = 0; staged = 0 }
 
 -- the plan of at most four moves: its entries after them hold no move
 abbrev pub planOf : List Move → Plan
@@ -70,7 +70,7 @@ spareIndex v w = getD (onlyFrom w v 0) (length (onlyFrom v w 0)) no-index
 
 -- the move of a shift, where the array has each node's tenant and one
 abbrev pub moveOf : List ℕ → Shift → Move
-moveOf owners s = record { tenant = getD owners (s .from) 0 - 1; from = s .from; to = s .to }
+moveOf owners s = record { tenant = getD owners (s .from) 0 - 1; from = s .from; to = s .to; staged = 0 }
 
 -- What is asked of two rows of a level whose first node is b: their runs are near, and every block of the old row has a tenant.
 pub record Shiftable (b : ℕ) (old new : Row) (owners : List ℕ) : Type 0 where

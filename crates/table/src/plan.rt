@@ -107,6 +107,7 @@ impl Plan {
             tenant: 0,
             from: 0,
             to: 0,
+            staged: 0,
         };
         Plan {
             n: 0,
@@ -115,7 +116,7 @@ impl Plan {
     }
 
     // The plan with one move more, at the end.
-    fn push(self, m: Move) -> Plan
+    pub fn push(self, m: Move) -> Plan
         requires { ⌜ (self .n < 4) × (self ≡ planOf (movesIn self)) ⌝ }
         ensures { λ r. ⌜ r ≡ planOf (movesIn self ++ (m ∷ [])) ⌝ }
     {
@@ -135,6 +136,7 @@ fn move_from(owners: &[u16; NODES], from: u16, to: u16) -> Move
         tenant: owners[from as usize] - 1,
         from,
         to,
+        staged: 0,
     }
 }
 

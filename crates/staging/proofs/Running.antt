@@ -1,0 +1,183 @@
+-- Whoever can go goes, the lowest tenant number first: this gets everybody away exactly if some order does.
+use mathlib.Core.Path.{_≡_, refl, sym, ap, _∙_}
+use mathlib.Core.Bool.{Bool, true, false, not, _&&_, _||_, cond, true≢false, false≢true}
+use mathlib.Core.List.{List, [], _∷_}
+use Prim.Native.Nat.{ℕ, zero, suc, _+_, _≤_, _<_}
+use native.Mathlib.Omega.{arith}
+use native.Mathlib.Decide.{ℕ-discrete}
+use borrow.Author.Tests.{eqb-true, eqb-false, eq-eqb, ne-eqb}
+use lib.Dec.{eqb}
+use Rattle.staging.specs.Graph.{Group, Graph, joined, away, CanGo, Run, nobody, next, Plan, sumOver, LowestFirst}
+use Rattle.staging.specs.Choice.{highest, canGo?, nextOf, ifAny, orderFrom, orderOf, works?}
+use Rattle.staging.proofs.Highest.{highest-none, none-of-zero, IsHighest, highest-of-suc}
+use Rattle.staging.proofs.Sums.{all-of-count, sum-joined}
+
+-- ---- Boolean tests
+
+both : (x y : Bool) → x ≡ true → y ≡ true → (x && y) ≡ true
+both true y p q = q
+both false y p q = absurd (false≢true p)
+
+first-of : (x y : Bool) → (x && y) ≡ true → x ≡ true
+first-of true y p = refl
+first-of false y p = absurd (false≢true p)
+
+second-of : (x y : Bool) → (x && y) ≡ true → y ≡ true
+second-of true y p = p
+second-of false y p = absurd (false≢true p)
+
+pub not-both-ways : (x : Bool) → ¬ (x ≡ true) → x ≡ false
+not-both-ways true p = absurd (p refl)
+not-both-ways false p = refl
+
+waited-not-away : (w a : Bool) → (w && not a) ≡ false → w ≡ true → a ≡ true
+waited-not-away true true e p = refl
+waited-not-away true false e p = absurd (true≢false e)
+waited-not-away false a e p = absurd (false≢true p)
+
+nobody-waited : (w a : Bool) → (w ≡ true → a ≡ true) → (w && not a) ≡ false
+nobody-waited true a p = rw (p refl)
+nobody-waited false a p = refl
+
+still-there : (x : Bool) → not x ≡ true → x ≡ false
+still-there true p = absurd (false≢true p)
+still-there false p = refl
+
+-- ---- who can go
+
+module _ (g : Graph) (A : Group) (k : ℕ) where
+  pub can-go-when : A k ≡ false → CanGo g A k → canGo? g A k ≡ true
+  can-go-when there can =
+      both (not (A k)) _ (rw there)
+      (eq-eqb _ 0 (highest-none (g .n) (λ j. g .waits k j && not (A j)) (λ j q. nobody-waited (g .waits k j) (A j) (can j q))))
+
+  pub can-go-there : canGo? g A k ≡ true → A k ≡ false
+  can-go-there e = still-there (A k) (first-of (not (A k)) _ e)
+
+  pub can-go-of : canGo? g A k ≡ true → CanGo g A k
+  can-go-of e j q w =
+      let nobody-there = eqb-true (highest (g .n) (λ j. g .waits k j && not (A j))) 0 (second-of (not (A k)) _ e) in
+      waited-not-away (g .waits k j) (A j) (none-of-zero (g .n) (λ j. g .waits k j && not (A j)) nobody-there j q) w
+
+-- ---- who is away
+
+pub joined-self : (A : Group) (k : ℕ) → joined A k k ≡ true
+joined-self A k = rw (eq-eqb k k refl)
+
+pub joined-keeps : (A : Group) (k j : ℕ) → A j ≡ true → joined A k j ≡ true
+joined-keeps A k j e = by-test (eqb j k)
+  where
+    by-test : (b : Bool) → (b || A j) ≡ true
+    by-test true = refl
+    by-test false = e
+
+pub away-keeps : (A : Group) (ks : List ℕ) (j : ℕ) → A j ≡ true → away A ks j ≡ true
+away-keeps A [] j e = e
+away-keeps A (k ∷ ks) j e = away-keeps (joined A k) ks j (joined-keeps A k j e)
+
+-- what is in both A and B's part stays in it
+joined-within : (A B : Group) (k : ℕ) → ((j : ℕ) → A j ≡ true → B j ≡ true) → B k ≡ true → (j : ℕ) → joined A k j ≡ true → B j ≡ true
+joined-within A B k within at-k j e = by-test (eqb j k) refl e
+  where
+    by-test : (b : Bool) → eqb j k ≡ b → (b || A j) ≡ true → B j ≡ true
+    by-test true f h = ap B (eqb-true j k f) ∙ at-k
+    by-test false f h = within j h
+
+-- ---- the order by lowest tenant number
+
+module _ (g : Graph) where
+  next-is : (A : Group) (k : ℕ) → nextOf g A ≡ suc k → IsHighest (g .n) (canGo? g A) k
+  unfolding nextOf
+  next-is A k e = highest-of-suc (g .n) (canGo? g A) k e
+
+  nobody-next : (A : Group) → nextOf g A ≡ 0 → (k : ℕ) → k < g .n → canGo? g A k ≡ false
+  unfolding nextOf
+  nobody-next A e = none-of-zero (g .n) (canGo? g A) e
+
+  nobody-can : (A : Group) → ((k : ℕ) → k < g .n → A k ≡ true) → nextOf g A ≡ 0
+  unfolding nextOf
+  nobody-can A gone = highest-none (g .n) (canGo? g A) (λ k q. rw (gone k q))
+
+  -- they can go in it
+  pub order-runs : (f : ℕ) (A : Group) → Run g A (orderFrom f g A)
+  order-runs zero A = nobody A
+  order-runs (suc f) A = by-next (nextOf g A) refl (λ k. order-runs f (joined A k))
+    where
+      by-next : (m : ℕ) → nextOf g A ≡ m → ((k : ℕ) → Run g (joined A k) (orderFrom f g (joined A k))) → Run g A (ifAny m (λ k. k ∷ orderFrom f g (joined A k)))
+      by-next zero e rest = nobody A
+      by-next (suc k) e rest =
+          let is = next-is A k e in
+          next A k (orderFrom f g (joined A k)) (is .below) (can-go-there g A k (is .passes)) (can-go-of g A k (is .passes)) (rest k)
+
+  pub order-lowest-first : (f : ℕ) (A : Group) → LowestFirst g A (orderFrom f g A)
+  order-lowest-first zero A = nobody A
+  order-lowest-first (suc f) A = by-next (nextOf g A) refl (λ k. order-lowest-first f (joined A k))
+    where
+      by-next : (m : ℕ) → nextOf g A ≡ m → ((k : ℕ) → LowestFirst g (joined A k) (orderFrom f g (joined A k)))
+          → LowestFirst g A (ifAny m (λ k. k ∷ orderFrom f g (joined A k)))
+      by-next zero e rest = nobody A
+      by-next (suc k) e rest =
+          let is = next-is A k e in
+          next A k (orderFrom f g (joined A k))
+          (λ j q r there can. true≢false (sym (can-go-when g A j there can) ∙ is .higher-fail j q r)) (rest k)
+
+  -- as many turns as there are movers are enough: afterwards nobody can go
+  stuck-after : (f : ℕ) (A : Group) → g .n ≤ f + sumOver (g .n) A (λ k. 1) → nextOf g (away A (orderFrom f g A)) ≡ 0
+  stuck-after zero A q = nobody-can A (all-of-count (g .n) A (omega (arith, q)))
+  stuck-after (suc f) A q = by-next (nextOf g A) refl (λ k. stuck-after f (joined A k))
+    where
+      by-next : (m : ℕ) → nextOf g A ≡ m
+          → ((k : ℕ) → g .n ≤ f + sumOver (g .n) (joined A k) (λ j. 1) → nextOf g (away (joined A k) (orderFrom f g (joined A k))) ≡ 0)
+          → nextOf g (away A (ifAny m (λ k. k ∷ orderFrom f g (joined A k)))) ≡ 0
+      by-next zero e rest = e
+      by-next (suc k) e rest =
+          let is = next-is A k e in
+          rest k (omega (arith, q, sum-joined (g .n) A k (λ j. 1) (is .below) (can-go-there g A k (is .passes))))
+
+  -- where nobody of those that are not in B can go, no run that begins inside B leaves it
+  run-stays : (B : Group) → nextOf g B ≡ 0 → (A : Group) (ks : List ℕ) → Run g A ks → ((j : ℕ) → A j ≡ true → B j ≡ true)
+      → (j : ℕ) → away A ks j ≡ true → B j ≡ true
+  run-stays B stuck _ _ (nobody A) within j e = within j e
+  run-stays B stuck _ _ (next A k ks q there can rest) within j e =
+      run-stays B stuck (joined A k) ks rest (joined-within A B k within (inside (B k) refl)) j e
+    where
+      inside : (b : Bool) → B k ≡ b → B k ≡ true
+      inside true f = f
+      inside false f =
+          absurd (true≢false (sym (can-go-when g B k f (λ i s w. within i (can i s w))) ∙ nobody-next B stuck k q))
+
+  -- any plan's staged group works, and a group that works is that of a plan
+  pub works-of-plan : (p : Plan g) → works? g (p .staged) ≡ true
+  unfolding works? orderOf
+  works-of-plan p =
+      let S = p .staged in
+      let B = away S (orderFrom (g .n) g S) in
+      let stuck = stuck-after (g .n) S (omega arith) in
+      eq-eqb _ 0
+      (highest-none (g .n) (λ k. not (B k))
+      (λ k q. rw (run-stays B stuck S (p .order) (p .goes) (away-keeps S (orderFrom (g .n) g S)) k (p .everybody k q))))
+
+  -- so does the group of everybody
+  pub works-of-all : (S : Group) → ((k : ℕ) → k < g .n → S k ≡ true) → works? g S ≡ true
+  unfolding works?
+  works-of-all S all =
+      eq-eqb _ 0 (highest-none (g .n) (λ k. not (away S (orderOf g S) k)) (λ k q. rw (away-keeps S (orderOf g S) k (all k q))))
+
+  pub all-away : (S : Group) → works? g S ≡ true → (k : ℕ) → k < g .n → away S (orderOf g S) k ≡ true
+  unfolding works?
+  all-away S e k q =
+      not-not (away S (orderOf g S) k) (none-of-zero (g .n) (λ j. not (away S (orderOf g S) j)) (eqb-true _ 0 e) k q)
+    where
+      not-not : (b : Bool) → not b ≡ false → b ≡ true
+      not-not true f = refl
+      not-not false f = absurd (true≢false f)
+
+  abbrev pub plan-of : (S : Group) → ((k : ℕ) → S k ≡ true → k < g .n) → works? g S ≡ true → Plan g
+  unfolding orderOf
+  plan-of S movers e = record {
+    staged = S;
+    order = orderOf g S;
+    only-movers = movers;
+    goes = order-runs (g .n) S;
+    everybody = all-away S e;
+  }
