@@ -4,7 +4,7 @@ ghost use mathlib.Core.Path.{_≡_};
 ghost use mathlib.Core.Bool.{cond};
 ghost use Prim.Native.Nat.{_+_, _*_, _^_, _≤_, _<_};
 ghost use lib.Dec.{eqb};
-ghost use lib.Bits.{bitAnd};
+ghost use lib.Bits.{bitAnd, bitOr};
 ghost use Rattle.staging.specs.Graph.{joined, away};
 ghost use Rattle.staging.specs.Choice.{Few, graphOf, has as Spec·has, canGo?, nextOf, orderOf, works?, costOf, betterOf, chosenOf, everyone};
 
@@ -37,7 +37,8 @@ pub fn single(k: usize) -> u8
 // The group with mover k.
 pub fn with_mover(group: u8, k: usize) -> u8
     requires { ⌜ k < 8 ⌝ }
-    ensures { λ r. ⌜ Spec·has r ≡ joined (Spec·has group) k ⌝ }
+    ensures members { λ r. ⌜ Spec·has r ≡ joined (Spec·has group) k ⌝ }
+    ensures number { λ r. ⌜ r ≡ bitOr group (2 ^ k) ⌝ }
 {
     group | single(k)
 }

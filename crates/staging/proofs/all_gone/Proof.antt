@@ -46,7 +46,7 @@ loop-again c =
     let a = c .before .before .before .before .before .args in
     let l = c .before .before .before .before .loop in
     one-goes (a .movers) (l .left) (l .away) (c .with-mover .result) (c .before .before .next .result) (c .before .before .before .loop-test .taken)
-    (c .before .before .next .ensures) (omega (arith, c .before .if1 .left)) (c .with-mover .ensures)
+    (c .before .before .next .ensures) (omega (arith, c .before .if1 .left)) (c .with-mover .ensures .0)
     ∙ l .inv
 
 returns-2 : tie.Need-returns-2 Inv-loop μ-loop

@@ -1,6 +1,5 @@
 -- `with_mover` meets its contract, digit by digit.
 use mathlib.Core.Path.{_∙_, ap}
-use Prim.Native.Nat.{ℕ}
 use borrow.Author.Needs.{needs}
 use lib.Bits.{bitOr}
 use Rattle.staging.specs.Choice.{has}
@@ -14,7 +13,8 @@ single-requires c κs = search needs
 returns : tie.Need-returns
 returns c =
     let a = c .before .args in
-    ap (λ (x : ℕ). has (bitOr (a .group) x)) (c .single .ensures) ∙ (λ i j. has-joined (a .group) (a .k) j i)
+    let number = ap (bitOr (a .group)) (c .single .ensures) in
+    (ap has number ∙ (λ i j. has-joined (a .group) (a .k) j i), number)
 
 pub with-mover-spec : {M : Type 1} → statement M
 with-mover-spec = tie.close (tie.spec single-requires returns)
