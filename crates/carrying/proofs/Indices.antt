@@ -44,8 +44,8 @@ module _ {h t : ℕ} {T T′ : List ℕ} {ms : List Move} (M : Moving h t T T′
   same-index j k q r e = by-order (decLt j k) (decLt k j)
     where
       by-order : Dec (j < k) → Dec (k < j) → j ≡ k
-      by-order (yes s) d = absurd (omega (arith, e, M .falling j k s r))
-      by-order (no s) (yes d) = absurd (omega (arith, e, M .falling k j d q))
+      by-order (yes s) d = absurd (omega (arith, e, M .standing j k s r))
+      by-order (no s) (yes d) = absurd (omega (arith, e, M .standing k j d q))
       by-order (no s) (no d) = omega arith
 
   pub higher-index : (j k : ℕ) → j < length ms → k < length ms → tenantAt ms j < tenantAt ms k → k < j
@@ -54,7 +54,7 @@ module _ {h t : ℕ} {T T′ : List ℕ} {ms : List Move} (M : Moving h t T T′
         | yes s ↦ s
         | no s ↦ elim (ℕ-discrete j k) [
           | yes e ↦ absurd (omega (arith, less, ap (tenantAt ms) e))
-          | no e ↦ absurd (omega (arith, less, M .falling j k (omega arith) r))
+          | no e ↦ absurd (omega (arith, less, M .standing j k (omega arith) r))
         ]
       ]
 

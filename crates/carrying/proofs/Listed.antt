@@ -21,7 +21,7 @@ use Rattle.table.specs.Plan.{no-move}
 use Rattle.table.specs.declared.Move.{Move}
 use Rattle.table.proofs.Distinct.{Distinct, place-of, at-place, distinct-places, distinct-append, length-as-count, getD-map}
 use Rattle.carrying.specs.Order.{waitingOf, marked, entries, worked}
-use Rattle.carrying.proofs.Sorting.{TenantsOnce}
+use Rattle.carrying.proofs.Moving.{TenantsOnce}
 
 -- ---- the members of a group
 

@@ -1,19 +1,18 @@
 -- The list in its order has the movers of a call, each once; and they may be given in any order, since they are put by tenant number first.
 use mathlib.Core.Path.{_≡_, sym, ap, subst, _∙_}
 use mathlib.Core.List.{List}
-use Prim.Native.Nat.{ℕ, _≤_, _<_}
+use Prim.Native.Nat.{ℕ, _<_}
 use native.Mathlib.Omega.{arith}
 use native.Mathlib.Decide.{decLt}
 use lib.ListN.{length, getD}
-use Rattle.tree.specs.Held.{Within, Legal}
-use Rattle.table.specs.Table.{nodeAt, occupied}
+use Rattle.table.specs.Table.{nodeAt}
 use Rattle.table.specs.Paired.{Mover}
 use Rattle.table.specs.Plan.{no-move}
 use Rattle.table.specs.declared.Move.{Move}
 use Rattle.table.proofs.Distinct.{place-of, at-place}
 use Rattle.carrying.specs.Order.{byTenant, marked, inOrder}
-use Rattle.carrying.proofs.Moving.{Moving}
-use Rattle.carrying.proofs.Sorting.{TenantsOnce, by-tenant-length, in-by-tenant, of-by-tenant, by-tenant-falling}
+use Rattle.carrying.proofs.Moving.{TenantsOnce, Unsorted, Moving}
+use Rattle.carrying.proofs.Sorting.{by-tenant-length, in-by-tenant, of-by-tenant, by-tenant-falling}
 use Rattle.carrying.proofs.Listed.{worked-length, worked-entry, worked-has, worked-once}
 
 -- ---- by tenant number
@@ -66,20 +65,6 @@ module _ (h : ℕ) (ms : List Move) where
 
 -- ---- the movers of a call
 
--- as Moving, but the movers stand in any order
-pub record Unsorted (h t : ℕ) (T T′ : List ℕ) (ms : List Move) : Type 0 where
-  pub once : TenantsOnce ms
-  pub few : length ms ≤ 7
-  pub listed : (i : ℕ) → i < length ms → Mover t T T′ (getD ms i no-move .tenant)
-  pub old : (i : ℕ) → i < length ms → getD ms i no-move .from ≡ nodeAt T (getD ms i no-move .tenant)
-  pub new : (i : ℕ) → i < length ms → getD ms i no-move .to ≡ nodeAt T′ (getD ms i no-move .tenant)
-  pub all-listed : (u : ℕ) → Mover t T T′ u → (i : ℕ) × (i < length ms) × (getD ms i no-move .tenant ≡ u)
-  pub old-within : Within h (occupied T)
-  pub new-within : Within h (occupied T′)
-  pub new-legal : Legal (occupied T′)
-  pub new-once : (u v : ℕ) → 0 < nodeAt T′ u → nodeAt T′ u ≡ nodeAt T′ v → u ≡ v
-  pub still-holds : (u : ℕ) → ¬ (u ≡ t) → 0 < nodeAt T u → 0 < nodeAt T′ u
-
 -- what holds at each place before holds at each place now
 everywhere-now : (P : Move → Type 0) (ms : List Move) → ((j : ℕ) → j < length ms → P (getD ms j no-move))
     → (i : ℕ) → i < length (byTenant ms) → P (getD (byTenant ms) i no-move)
@@ -88,7 +73,7 @@ everywhere-now P ms holds i q = let b = place-before ms i q in subst P (b .2) (h
 pub moving-by-tenant : (h t : ℕ) (T T′ : List ℕ) (ms : List Move) → Unsorted h t T T′ ms → Moving h t T T′ (byTenant ms)
 moving-by-tenant h t T T′ ms u =
     record {
-      falling = by-tenant-falling ms (u .once);
+      standing = by-tenant-falling ms (u .standing);
       few = rw (by-tenant-length ms) (u .few);
       listed = everywhere-now (λ m. Mover t T T′ (m .tenant)) ms (u .listed);
       old = everywhere-now (λ m. m .from ≡ nodeAt T (m .tenant)) ms (u .old);
@@ -97,7 +82,6 @@ moving-by-tenant h t T T′ ms u =
           let a = u .all-listed v mover in
           let b = place-now ms (a .0) (a .1) in
           (b .0, b .1, ap (λ (m : Move). m .tenant) (b .2) ∙ a .2);
-      old-within = u .old-within;
       new-within = u .new-within;
       new-legal = u .new-legal;
       new-once = u .new-once;

@@ -12,8 +12,9 @@ use Rattle.staging.proofs.Sums.{sum-cong}
 use Rattle.staging.proofs.Best.{chosen-plan, chosen-movers, chosen-is-best}
 use Rattle.table.specs.declared.Move.{Move}
 use Rattle.carrying.specs.Carrying.{among, liftedOut, Plan, CarriedOut, pagesAt, Ascending, Before, AscendingOf, BestPlan, Workable}
-use Rattle.carrying.specs.Order.{waitingOf, stagedIn, worked}
-use Rattle.carrying.proofs.Moving.{Moving}
+use Rattle.carrying.specs.Order.{waitingOf, stagedIn, worked, byTenant, inOrder}
+use Rattle.carrying.proofs.Moving.{Unsorted, Moving}
+use Rattle.carrying.proofs.Ordered.{moving-by-tenant}
 use Rattle.carrying.proofs.Lists.{from-map, of-members, in-members, once-members, first-difference, in-second-part}
 use Rattle.carrying.proofs.Indices.{tenantAt, planBy, Indices, tenant-among}
 use Rattle.carrying.proofs.Standing.{at-first}
@@ -33,7 +34,7 @@ module _ {h t : ℕ} {T T′ : List ℕ} {ms : List Move} (M : Moving h t T T′
       by-test true a = (
         λ v e.
             let r = from-map (tenantAt ms) v (members n S) e in
-            subst (λ (w : ℕ). tenantAt ms n < w) (r .2) (M .falling (r .0) n (of-members n S (r .0) (r .1) .0) (omega arith)),
+            subst (λ (w : ℕ). tenantAt ms n < w) (r .2) (M .standing (r .0) n (of-members n S (r .0) (r .1) .0) (omega arith)),
         a,
       )
 
@@ -115,7 +116,7 @@ module _ {h t : ℕ} {T T′ : List ℕ} {ms : List Move} (M : Moving h t T T′
         lower-alike = λ j above r.
             G .group j r
             ∙ sym (A .members (tenantAt ms j))
-            ∙ d .lower-alike (tenantAt ms j) (omega (arith, i .2, M .falling (i .0) j above r))
+            ∙ d .lower-alike (tenantAt ms j) (omega (arith, i .2, M .standing (i .0) j above r))
             ∙ tenant-listed j r;
       }
 
@@ -145,3 +146,8 @@ worked-workable h t T T′ ms M = record {
   zero-or-one = at-most-one ms (aside M) (order M);
   direct-first = zeros-first ms (aside M) (order M);
 }
+
+-- the same of movers that stand in any order
+pub in-order-workable : (h t : ℕ) (T T′ : List ℕ) (ms : List Move) → Unsorted h t T T′ ms → Workable h t T T′ (inOrder h ms)
+unfolding inOrder
+in-order-workable h t T T′ ms u = worked-workable h t T T′ (byTenant ms) (moving-by-tenant h t T T′ ms u)
