@@ -357,7 +357,11 @@ fn print_move(m: Move) {
     print(m.tenant as usize);
     text(b":");
     print(m.from as usize);
-    text(b">");
+    if m.staged == 0 {
+        text(b">");
+    } else {
+        text(b"=");
+    }
     print(m.to as usize);
 }
 

@@ -6,7 +6,7 @@ ghost use lib.ListN.{length};
 ghost use lib.Seq.{paste};
 ghost use Rattle.lines.specs.Ascii.{bytes as Ascii·bytes};
 ghost use Rattle.lines.specs.Decimal.{decimal as Decimal·decimal};
-ghost use Rattle.lines.specs.Line.{spaced, moveField};
+ghost use Rattle.lines.specs.Line.{spaced, separator, moveField};
 ghost use Rattle.lines.specs.Text.{Grown, Spells};
 use table::Move;
 
@@ -91,7 +91,7 @@ impl Text {
     {
         let tenant = self.number(m.tenant);
         let old = tenant.push(b':').short_decimal(m.from);
-        old.push(b'>').short_decimal(m.to)
+        old.push(separator_of(m.staged)).short_decimal(m.to)
     }
 
     // Puts the text into lent bytes from an index on, and answers the index after it.
@@ -108,4 +108,14 @@ impl Text {
         }
         at + n
     }
+}
+
+// The byte between the nodes of a move, whose last number says whether it is staged.
+fn separator_of(staged: u16) -> u8
+    ensures { λ r. ⌜ r ≡ separator staged ⌝ }
+{
+    if staged == 0 {
+        return b'>';
+    }
+    b'='
 }

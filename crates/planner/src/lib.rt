@@ -51,6 +51,7 @@ fn perform_on_four(height: u16, table: &mut [u16], call: Call) -> Called
         tenant: 0,
         from: 0,
         to: 0,
+        staged: 0,
     };
     let mut list = [unused; 4];
     let report = perform(height, table, &mut list, call);

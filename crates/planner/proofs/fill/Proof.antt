@@ -171,7 +171,7 @@ module _ {M : Type 1} (𝓤 : URA M) (H : Heap 𝓤) (A : Atoms 𝓤) (W : Given
     more i less =
         let within-list : i .0 < length (listed (i .0)) = omega (arith, length-listed (i .0) (i .1)) in
         let fits : i .0 + 1 < 2 ^ 64 = omega arith in
-        let bytes-fit : i .0 * 6 < 2 ^ 64 = omega arith in
+        let bytes-fit : i .0 * 8 < 2 ^ 64 = omega arith in
         let next : Upto = (i .0 + 1, add-one-le less) in
         assigns ! (bin ! (val ! 12 refl) (val ! 14 refl) tt) (from ! (stop !)) (init ! 10 refl (tt, tt)) $
         rewrite ! 10 (λ (t : Bool). ‵ (fat fullShare tyBool l₅ 0 (vbool t))) (lt-ltb (i .0) n less) refl $ stays ! (val ! 10 refl) $
@@ -190,7 +190,7 @@ module _ {M : Type 1} (𝓤 : URA M) (H : Heap 𝓤) (A : Atoms 𝓤) (W : Given
               bytes-fit;
         })) (from ! (stop !)) (init ! 7 refl (tt, record { fits = bytes-fit })) $
         assigns ! (bin ! (field-val ! 17 0 (whole !) refl refl) (val ! 7 refl) tt) (from ! (stop !)) (init ! 5 refl (tt, tt)) $
-        rewrite ! 5 (λ (k : ℕ). ‵ (fat fullShare tyPtr l₈ 0 (vptr b k))) (sym (place-is 6 o (i .0))) refl $
+        rewrite ! 5 (λ (k : ℕ). ‵ (fat fullShare tyPtr l₈ 0 (vptr b k))) (sym (place-is 8 o (i .0))) refl $
         move ! (1 ∷ []) $
         elem-out ! Mv.the-row (Is Mv.the-row) (shows 𝓤 H A Mv.the-row)
         (LL.vals Mv.the-type Mv′.the-laws) (LL.tells Mv.the-type Mv′.the-laws) fullShare (listed (i .0)) (i .0) no-move b o within-list (λ _.

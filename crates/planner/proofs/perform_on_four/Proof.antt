@@ -88,7 +88,7 @@ unused = replicate 4 no-move
 is-unused : Is Four unused (valueOf unused ∷ [])
 is-unused =
     let zero-fits : Is Mv.the-row no-move (LL.vals Mv.the-type Mv′.the-laws no-move) =
-    LL.owes Mv.the-type Mv′.the-laws no-move ((refl, lit< tt), ((refl, lit< tt), ((refl, lit< tt), tt))) in
+    LL.owes Mv.the-type Mv′.the-laws no-move ((refl, lit< tt), ((refl, lit< tt), ((refl, lit< tt), ((refl, lit< tt), tt)))) in
     (replicate 4 (LL.val Mv.the-type Mv′.the-laws no-move), ((refl, refl), (zero-fits, (zero-fits, (zero-fits, (zero-fits, tt))))))
 
 room-for-four : Room Mv.the-row 4
@@ -226,8 +226,8 @@ module _ {M : Type 1} (𝓤 : URA M) (H : Heap 𝓤) (A : Atoms 𝓤) (W : Given
       pass1 ! (init ! 22 refl (tt, record { fits = h-fits })) $ pass1 ! (init ! 20 refl (tt, (tt, (sized, tt)))) $
       pass1 ! (init ! 18 refl (EL.lawful Cl.the-type Cl′.the-laws 𝓤 H A W tt .typed c _ is-call .0)) $ pass0 ! $
       -- [_12; …; _11; …; _10; …; _9; …; _8; …; _7; …; _6; …; _5; …; _4; …; _3; …; _2; …; _1; …; _0; …; the token; what the parameters own]
-      assigns ! (agg ! (and-then ! (lit ! tt) (and-then ! (lit ! tt) (and-then ! (lit ! tt) (no-more !))))) (from ! (stop !))
-      (init ! 16 refl (tt, (zero, (zero, (zero, tt))))) $
+      assigns ! (agg ! (and-then ! (lit ! tt) (and-then ! (lit ! tt) (and-then ! (lit ! tt) (and-then ! (lit ! tt) (no-more !)))))) (from ! (stop !))
+      (init ! 16 refl (tt, (zero, (zero, (zero, (zero, tt)))))) $
       assigns ! (rep ! 4 (val ! 16 refl)) (from ! (stop !))
       (init ! 14 refl (array-typed Mv.the-row (LL.lawful Mv.the-type Mv′.the-laws 𝓤 H A W .typed) 4 unused _ is-unused .0)) $
       assigns ! (addr ! (from ! (fld ! refl (hop ! (look-in ! 20 (sub ! 0 refl (whole !))) (stop !))))) (from ! (stop !)) (init ! 10 refl (tt, tt)) $
