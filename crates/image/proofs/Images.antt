@@ -21,12 +21,12 @@ unfolding imageOf
 image-length [] = refl
 image-length (n ∷ ns) = omega (arith, image-length ns)
 
-numbers-of-length : (ms : List Move) → length (numbersOf ms) ≡ 3 * length ms
+numbers-of-length : (ms : List Move) → length (numbersOf ms) ≡ 4 * length ms
 unfolding numbersOf
 numbers-of-length [] = refl
 numbers-of-length (m ∷ ms) = omega (arith, numbers-of-length ms)
 
-pub move-bytes-length : (ms : List Move) → length (moveBytes ms) ≡ 6 * length ms
+pub move-bytes-length : (ms : List Move) → length (moveBytes ms) ≡ 8 * length ms
 move-bytes-length ms = omega (arith, image-length (numbersOf ms), numbers-of-length ms)
 
 -- ---- one more at the end
@@ -77,27 +77,31 @@ encoded-all image₀ nodes image inv p q =
     let none : drop 8192 image₀ ≡ [] = drop-of-length-le image₀ {i = 8192} (omega arith) in
     inv ∙ ap₂ (λ (a b : List ℕ). imageOf a ++ b) whole none ∙ append-nil (imageOf nodes)
 
-pub put-more : (list₀ : List ℕ) (ms : List Move) (list : List ℕ) (i : ℕ) → list ≡ moveBytes (take i ms) ++ drop (6 * i) list₀
-    → i < length ms → 6 * i + 6 ≤ length list₀
-    → sets list (6 * i) (moveBytes (getD ms i no-move ∷ [])) ≡ moveBytes (take (i + 1) ms) ++ drop (6 * (i + 1)) list₀
+pub put-more : (list₀ : List ℕ) (ms : List Move) (list : List ℕ) (i : ℕ) → list ≡ moveBytes (take i ms) ++ drop (8 * i) list₀
+    → i < length ms → 8 * i + 8 ≤ length list₀
+    → sets list (8 * i) (moveBytes (getD ms i no-move ∷ [])) ≡ moveBytes (take (i + 1) ms) ++ drop (8 * (i + 1)) list₀
 unfolding imageOf numbersOf
 put-more list₀ ms list i inv p q =
     let done = moveBytes (take i ms) in
-    let e : length done ≡ 6 * i = omega (arith, move-bytes-length (take i ms), length-take-le i ms (omega arith)) in
-    let next : 6 * (i + 1) ≡ 6 * i + 6 = omega arith in
-    rw (inv, next, move-bytes-of-more ms i p) (stored-behind done list₀ (6 * i) e (moveBytes (getD ms i no-move ∷ [])) q)
+    let e : length done ≡ 8 * i = omega (arith, move-bytes-length (take i ms), length-take-le i ms (omega arith)) in
+    let next : 8 * (i + 1) ≡ 8 * i + 8 = omega arith in
+    rw (inv, next, move-bytes-of-more ms i p) (stored-behind done list₀ (8 * i) e (moveBytes (getD ms i no-move ∷ [])) q)
 
--- three numbers stored one after the other are one run
-pub three-numbers : (l : List ℕ) (at a b c : ℕ)
-    → set (set (set (set (set (set l at (low a)) (at + 1) (high a)) (at + 2) (low b)) (at + 2 + 1) (high b)) (at + 4) (low c)) (at + 4 + 1) (high c)
-    ≡ sets l at (imageOf (a ∷ b ∷ c ∷ []))
+-- a number stored as two bytes; four of them one after the other are one run
+abbrev stored : List ℕ → ℕ → ℕ → List ℕ
+stored l i n = set (set l i (low n)) (i + 1) (high n)
+
+pub four-numbers : (l : List ℕ) (at a b c d : ℕ)
+    → stored (stored (stored (stored l at a) (at + 2) b) (at + 4) c) (at + 6) d ≡ sets l at (imageOf (a ∷ b ∷ c ∷ d ∷ []))
 unfolding imageOf
-three-numbers l at a b c =
+four-numbers l at a b c d =
+    let seven : at + 6 + 1 ≡ suc (suc (suc (suc (suc (suc (suc at)))))) = omega arith in
+    let six : at + 6 ≡ suc (suc (suc (suc (suc (suc at))))) = omega arith in
     let five : at + 4 + 1 ≡ suc (suc (suc (suc (suc at)))) = omega arith in
     let four : at + 4 ≡ suc (suc (suc (suc at))) = omega arith in
     let three : at + 2 + 1 ≡ suc (suc (suc at)) = omega arith in
     let two : at + 2 ≡ suc (suc at) = omega arith in
-    rw (five, four, three, two, add-one at)
+    rw (seven, six, five, four, three, two, add-one at)
 
 -- ---- the table of an image
 

@@ -1,4 +1,4 @@
--- Numbers of 16 bits as bytes, the low byte first. Document 01, "Calls": the table as 8,192 bytes, a move as six.
+-- Numbers of 16 bits as bytes, the low byte first. Document 01, "Calls": the table as 8,192 bytes; document 02, L2: a move as eight.
 use mathlib.Core.Path.{_≡_}
 use mathlib.Core.Bool.{cond}
 use mathlib.Core.List.{List, [], _∷_}
@@ -23,12 +23,12 @@ numbersIn (lo ∷ hi ∷ bytes) = word lo hi ∷ numbersIn bytes
 unfoldable pub tableOf : List ℕ → List ℕ
 tableOf image = cond (eqb (length image) 8192) (numbersIn image) []
 
--- the numbers of moves: tenant, old node, new node
+-- the numbers of moves: tenant, old node, new node, 1 if staged
 unfoldable pub numbersOf : List Move → List ℕ
 numbersOf [] = []
-numbersOf (m ∷ ms) = m .tenant ∷ m .from ∷ m .to ∷ numbersOf ms
+numbersOf (m ∷ ms) = m .tenant ∷ m .from ∷ m .to ∷ m .staged ∷ numbersOf ms
 
--- six bytes to a move
+-- eight bytes to a move
 abbrev pub moveBytes : List Move → List ℕ
 moveBytes ms = imageOf (numbersOf ms)
 

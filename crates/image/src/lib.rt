@@ -15,7 +15,7 @@ use table::plan::Plan;
 // The bytes of the image of a table, and of a move.
 const TABLE_BYTES: usize = 8192;
 
-pub const MOVE_BYTES: usize = 6;
+pub const MOVE_BYTES: usize = 8;
 
 // Reads the table that an image stands for into the array, and says how many entries it has: none, and the array stays as it was, if the image
 // does not have 8,192 bytes.
@@ -47,20 +47,21 @@ pub fn encode(nodes: &[u16; TENANTS], image: &mut [u8])
     }
 }
 
-// Writes the six bytes of a move at an index.
+// Writes the eight bytes of a move at an index.
 fn put_move(list: &mut [u8], at: usize, m: Move)
-    requires { ⌜ at + 6 ≤ length (now list) ⌝ }
+    requires { ⌜ at + 8 ≤ length (now list) ⌝ }
     ensures { λ _. ⌜ now (list .exit) ≡ sets (now (list .entry)) at (moveBytes (m ∷ [])) ⌝ }
 {
     put_word(list, at, m.tenant);
     put_word(list, at + 2, m.from);
     put_word(list, at + 4, m.to);
+    put_word(list, at + 6, m.staged);
 }
 
 // Writes the moves of a plan from the front of the list, and leaves the bytes after them.
 pub fn put_moves(plan: Plan, list: &mut [u8])
-    requires { ⌜ (plan .n ≤ 4) × (24 ≤ length (now list)) ⌝ }
-    ensures { λ _. ⌜ now (list .exit) ≡ moveBytes (movesIn plan) ++ drop (6 * length (movesIn plan)) (now (list .entry)) ⌝ }
+    requires { ⌜ (plan .n ≤ 4) × (32 ≤ length (now list)) ⌝ }
+    ensures { λ _. ⌜ now (list .exit) ≡ moveBytes (movesIn plan) ++ drop (8 * length (movesIn plan)) (now (list .entry)) ⌝ }
 {
     let n = plan.n;
     let moves = plan.moves;

@@ -68,7 +68,7 @@ module _ (o : Result) (image list : List ℕ) (r : Outcome) (a : r .answer ≡ o
       record { answer = a; node = n; count = m; table = rw other; moves = rw other }
 
   pub report-done : o .answer ≡ 0 → (image′ list′ : List ℕ) → image′ ≡ imageOf (o .table)
-      → list′ ≡ moveBytes (o .moves) ++ drop (6 * length (o .moves)) list → Reported o image list r image′ list′
+      → list′ ≡ moveBytes (o .moves) ++ drop (8 * length (o .moves)) list → Reported o image list r image′ list′
   report-done z image′ list′ p q =
       let done = eq-eqb (o .answer) 0 z in
       record { answer = a; node = n; count = m; table = rw done p; moves = rw done q }
@@ -109,7 +109,7 @@ module _ (h : ℕ) (c : Call) (called : Called) {image nodes after : List ℕ} {
     whole = done-table h (tableOf image) c;
   }
 
-  pub call-finishes : (list : List ℕ) → entriesOf c ≡ length list / 6
+  pub call-finishes : (list : List ℕ) → entriesOf c ≡ length list / 8
       → (length (after ++ drop n nodes) ≡ 4096) × Enough (numberOf (called .answer)) image list
   call-finishes list e = (
     array-length through,

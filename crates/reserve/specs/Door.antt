@@ -16,9 +16,9 @@ use Rattle.reserve.specs.declared.page_map.Counted.{Counted}
 abbrev pub imageAfter : Result → List ℕ → List ℕ
 imageAfter o image = cond (eqb (o .answer) 0) (imageOf (o .table)) image
 
--- the list afterwards: the moves, six bytes each, and the bytes after them as they were; a refusal leaves every byte
+-- the list afterwards: the moves, eight bytes each, and the bytes after them as they were; a refusal leaves every byte
 abbrev pub listAfter : Result → List ℕ → List ℕ
-listAfter o list = cond (eqb (o .answer) 0) (moveBytes (o .moves) ++ drop (6 * length (o .moves)) list) list
+listAfter o list = cond (eqb (o .answer) 0) (moveBytes (o .moves) ++ drop (8 * length (o .moves)) list) list
 
 -- r is the report of o, and the bytes afterwards are image′ and list′
 pub record Reported (o : Result) (image list : List ℕ) (r : Outcome) (image′ list′ : List ℕ) : Type 0 where
@@ -30,7 +30,7 @@ pub record Reported (o : Result) (image list : List ℕ) (r : Outcome) (image′
 
 -- so many entries has a list of bytes
 abbrev pub entriesIn : List ℕ → ℕ
-entriesIn list = length list / 6
+entriesIn list = length list / 8
 
 -- r, image′ and list′ are what the call at height h, given the list's entries, makes of the image and the list
 abbrev pub CalledOn : ℕ → (ℕ → Call) → List ℕ → List ℕ → Outcome → List ℕ → List ℕ → Type 0
@@ -39,7 +39,7 @@ CalledOn h call image list r image′ list′ = Reported (step h (tableOf image)
 -- an answer 0 is given only where the bytes lent are enough
 pub record Enough (answer : ℕ) (image list : List ℕ) : Type 0 where
   pub table : answer ≡ 0 → length image ≡ 8192
-  pub moves : answer ≡ 0 → 24 ≤ length list
+  pub moves : answer ≡ 0 → 32 ≤ length list
 
 -- the count of a map
 abbrev pub countOf : Bits → Counted

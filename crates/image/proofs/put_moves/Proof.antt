@@ -14,7 +14,7 @@ use Rattle.image.proofs.put_moves.Statement.{statement}
 use Rattle.image.proofs.put_moves.Tie as tie
 
 abbrev Inv-loop : tie.InvT-loop
-Inv-loop list₀ n moves k₀ list k = (k ≤ n) × (list ≡ moveBytes (take k moves) ++ drop (6 * k) list₀) × (length list ≡ length list₀)
+Inv-loop list₀ n moves k₀ list k = (k ≤ n) × (list ≡ moveBytes (take k moves) ++ drop (8 * k) list₀) × (length list ≡ length list₀)
 
 abbrev μ-loop : tie.MeasureT-loop
 μ-loop list₀ n moves k₀ list k = n - k
@@ -52,7 +52,7 @@ loop-again c =
     let ms = start .args .plan .moves in
     let long : _≡_ {A = ℕ} (length (start .args .plan .moves)) 4 = search length-of-mapped in
     let in-plan : k < length ms = omega (arith, start .pre .0) in
-    let in-list : 6 * k + 6 ≤ length (start .args .list .now) = omega (arith, start .pre) in (
+    let in-list : 8 * k + 8 ≤ length (start .args .list .now) = omega (arith, start .pre) in (
       omega arith,
       called .ensures ∙ put-more (start .args .list .now) ms (at-loop .loop .list) k (at-loop .loop .inv .1) in-plan in-list,
       called .kept .0 ∙ at-loop .loop .inv .2,
@@ -71,8 +71,8 @@ returns c =
     let long : _≡_ {A = ℕ} (length (start .args .plan .moves)) 4 = search length-of-mapped in
     let all : at-loop .loop .k ≡ length (take n ms) = omega (arith, count-some ms n long (start .pre .0)) in
     at-loop .loop .inv .1
-    ∙ ap (λ (k : ℕ). moveBytes (take k ms) ++ drop (6 * k) (a .list .now)) all
-    ∙ ap (λ (l : List Move). moveBytes l ++ drop (6 * length (take n ms)) (a .list .now)) (take-own-length n ms)
+    ∙ ap (λ (k : ℕ). moveBytes (take k ms) ++ drop (8 * k) (a .list .now)) all
+    ∙ ap (λ (l : List Move). moveBytes l ++ drop (8 * length (take n ms)) (a .list .now)) (take-own-length n ms)
 
 pub put-moves-spec : {M : Type 1} → statement M
 put-moves-spec =
