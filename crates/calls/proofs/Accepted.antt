@@ -15,14 +15,20 @@ use Rattle.layout.specs.Change.{oneMore, oneFewer}
 use Rattle.layout.proofs.Theorems.{layout-has-counts}
 use Rattle.table.specs.Table.{nodeAt, occupied, countsOf, in-order?, InOrder}
 use Rattle.table.specs.Pairing.{moved, movesOf}
-use Rattle.table.specs.Paired.{MoversPaired, MoversFill, NewcomerPaired, ListInOrder}
+use Rattle.table.specs.Paired.{Mover, MoversPaired, MoversFill, NewcomerPaired}
 use Rattle.table.specs.Plan.{no-move}
+use Rattle.table.specs.declared.Move.{Move}
 use Rattle.table.proofs.Occupied.{occupied-within}
 use Rattle.table.proofs.Order.{in-order-iff, in-order-counts}
 use Rattle.table.proofs.Moved.{Movable, moved-nothing, moved-level, moved-holds, moved-stays}
 use Rattle.table.proofs.Newcomer.{granted-newcomer, granted-others, newcomer-level, newcomer-above-zero}
 use Rattle.table.proofs.Moves.{Moves, moves-in-list, move-of, one-move-each}
-use Rattle.table.proofs.Paired.{moves-in-order, movers-paired, movers-fill, newcomer-paired}
+use Rattle.table.proofs.Paired.{movers-paired, movers-fill, newcomer-paired}
+use Rattle.carrying.specs.Carrying.{Workable}
+use Rattle.carrying.specs.Order.{inOrder}
+use Rattle.carrying.proofs.Moving.{Unsorted}
+use Rattle.carrying.proofs.Ordered.{in-order-length, in-order-entry, in-order-has, in-order-once}
+use Rattle.carrying.proofs.Workable.{in-order-workable}
 use Rattle.calls.specs.Call.{Call, grant-level, grant-pages, release, tenantOf, levelFor}
 use Rattle.calls.specs.Step.{Outcome, first, check, validity, holdings, checks, granted, released, refused, step}
 use Rattle.calls.specs.History.{Book}
@@ -31,11 +37,12 @@ use Rattle.calls.specs.Accepted.{Shifted, Settled, AfterGrant, AfterRele
 use Rattle.calls.proofs.Checks.{Sound, answer-is-first, validity-numbered, not-applied, rest-zero, height-passed, length-passed}
 use Rattle.calls.proofs.Room.{count-one-more}
 use Rattle.calls.proofs.Given.{above-zero}
-use Rattle.calls.proofs.Kept.{Kept}
+use Rattle.calls.proofs.Kept.{Kept, level-in-counts}
 use Rattle.calls.proofs.Struck.{node-after-set, node-beside-set}
 use Rattle.calls.proofs.Granting.{grant-movable, grant-one-more, t-in-table, grant-in-order, grant-occupies, new-sizes}
 use Rattle.calls.proofs.Releasing.{release-movable, release-in-order, release-occupies, counts-before, level-in-fewer, fewer-counts-fit}
 use Rattle.calls.proofs.Releasing.{fewer-sizes}
+use Rattle.calls.proofs.Reported.{grant-moves-few, release-moves-few}
 use Rattle.calls.proofs.Cases.{both-zero, Granted, Released, Case, by-grant, by-release, by-refusal, case}
 use Rattle.calls.proofs.Box.{grants-do-not-release}
 
@@ -68,7 +75,8 @@ sound-if-accepted h T c e =
 module _ {h : ℕ} {N : Nodes} {T₁ : List ℕ} (M : Movable h N T₁) (T : List ℕ) (t : ℕ) (out : nodeAt T₁ t ≡ 0)
     (before : (u : ℕ) → ¬ (u ≡ t) → nodeAt T₁ u ≡ nodeAt T u) (o : Outcome)
     (after : (u : ℕ) → ¬ (u ≡ t) → nodeAt (o .table) u ≡ nodeAt (moved h N T₁) u)
-    (moves : o .moves ≡ movesOf h N T₁) (order : InOrder h (o .table)) (occupies : (n : ℕ) → occupied (o .table) n ≡ N n) where
+    (few : length (movesOf h N T₁) ≤ 7) (moves : o .moves ≡ inOrder h (movesOf h N T₁)) (order : InOrder h (o .table))
+    (occupies : (n : ℕ) → occupied (o .table) n ≡ N n) where
   listed-shifted : (m : _) → Moves h N T₁ m → Shifted t T (o .table) m
   listed-shifted m v =
       let other : ¬ (m .tenant ≡ t) = λ e. omega (arith, v .from-above-zero, v .from-is, ap (nodeAt T₁) e, out) in
@@ -81,6 +89,58 @@ module _ {h : ℕ} {N : Nodes} {T₁ : List ℕ} (M : Movable h N T₁) (T : Lis
         differ = v .differ;
       }
 
+  at-place : (i : ℕ) → i < length (movesOf h N T₁) → Shifted t T (o .table) (getD (movesOf h N T₁) i no-move)
+  at-place i q = listed-shifted (getD (movesOf h N T₁) i no-move) (moves-in-list M no-move i q)
+
+  still-holding : (u : ℕ) → ¬ (u ≡ t) → 0 < nodeAt T u → 0 < nodeAt (o .table) u
+  still-holding u ne p = rw (after u ne) (moved-holds M u (rw (before u ne) p))
+
+  move-of-mover : (u : ℕ) → Mover t T (o .table) u → (i : ℕ) × (i < length (movesOf h N T₁)) × (getD (movesOf h N T₁) i no-move .tenant ≡ u)
+  move-of-mover u m =
+      let ne = m .other in
+      move-of M no-move u (rw (before u ne) (m .had-one)) (λ e. m .differ (after u ne ∙ e ∙ before u ne))
+
+  movers : Unsorted h t T (o .table) (movesOf h N T₁)
+  movers = record {
+    standing = one-move-each M no-move;
+    few = few;
+    listed = λ i q. let s = at-place i q in record {
+      other = s .other;
+      had-one = subst (λ (n : ℕ). 0 < n) (s .old) (s .had-one);
+      differ = λ e. s .differ (s .old ∙ sym e ∙ sym (s .new));
+    };
+    old = λ i q. at-place i q .old;
+    new = λ i q. at-place i q .new;
+    all-listed = move-of-mover;
+    new-within = occupied-within h (o .table) (order .in-tree);
+    new-legal = order .legal;
+    new-once = order .once;
+    still-holds = still-holding;
+  }
+
+  -- an entry of the list has a mover's numbers
+  shifted-by : (m m′ : Move) → m .tenant ≡ m′ .tenant → m .from ≡ m′ .from → m .to ≡ m′ .to → Shifted t T (o .table) m′ → Shifted t T (o .table) m
+  shifted-by m m′ tenant old new s = record {
+    other = λ e. s .other (sym tenant ∙ e);
+    old = old ∙ s .old ∙ ap (nodeAt T) (sym tenant);
+    new = new ∙ s .new ∙ ap (nodeAt (o .table)) (sym tenant);
+    had-one = rw old (s .had-one);
+    has-one = rw new (s .has-one);
+    differ = λ e. s .differ (sym old ∙ e ∙ new);
+  }
+
+  in-list : (i : ℕ) → i < length (inOrder h (movesOf h N T₁)) → Shifted t T (o .table) (getD (inOrder h (movesOf h N T₁)) i no-move)
+  in-list i q =
+      let e = in-order-entry h (movesOf h N T₁) i q in
+      shifted-by (getD (inOrder h (movesOf h N T₁)) i no-move) (getD (movesOf h N T₁) (e .0) no-move) (e .2) (e .3) (e .4) (at-place (e .0) (e .1))
+
+  in-list-of : (u : ℕ) → Mover t T (o .table) u
+      → (i : ℕ) × (i < length (inOrder h (movesOf h N T₁))) × (getD (inOrder h (movesOf h N T₁)) i no-move .tenant ≡ u)
+  in-list-of u m =
+      let j = move-of-mover u m in
+      let i = in-order-has h (movesOf h N T₁) (j .0) (j .1) in
+      (i .0, i .1, i .2 ∙ j .2)
+
   settled : Settled h t T o
   settled = record {
     within = occupied-within h (o .table) (order .in-tree);
@@ -88,13 +148,13 @@ module _ {h : ℕ} {N : Nodes} {T₁ : List ℕ} (M : Movable h N T₁) (T : Lis
     safe = order .safe;
     stays = λ u ne p q. after u ne ∙ moved-stays M u (rw (before u ne) (sym (occupies (nodeAt T u)) ∙ q)) ∙ before u ne;
     same-level = λ u ne p. ap (level h) (after u ne) ∙ moved-level M u (rw (before u ne) p) ∙ ap (level h) (before u ne);
-    still-holds = λ u ne p. rw (after u ne) (moved-holds M u (rw (before u ne) p));
+    still-holds = still-holding;
     still-nothing = λ u ne z. after u ne ∙ moved-nothing M u (before u ne ∙ z);
     movers-paired = subst (λ (A : Nodes). MoversPaired h A t T (o .table)) (sym (fun-ext occupies)) (movers-paired M t T (o .table) out before after);
-    listed = λ i q. rw moves (listed-shifted _ (moves-in-list M no-move i (rw (← moves) q)));
-    all-listed = λ u ne p d. rw moves (move-of M no-move u (rw (before u ne) p) (λ e. d (after u ne ∙ e ∙ before u ne)));
-    once = λ i j p q e. one-move-each M no-move i j (rw (← moves) p) (rw (← moves) q) (rw moves at e);
-    list-in-order = subst (ListInOrder h no-move) (sym moves) (moves-in-order M no-move);
+    listed = λ i q. rw moves (in-list i (rw (← moves) q));
+    all-listed = λ u ne p d. rw moves (in-list-of u (record { other = ne; had-one = p; differ = d }));
+    once = λ i j p q e. in-order-once h (movesOf h N T₁) (one-move-each M no-move) i j (rw (← moves) p) (rw (← moves) q) (rw moves at e);
+    workable = subst (Workable h t T (o .table)) (sym moves) (in-order-workable h t T (o .table) (movesOf h N T₁) movers);
   }
 
 module _ (h : ℕ) (T : List ℕ) (c : Call) (e : step h T c .answer ≡ 0) where
@@ -115,9 +175,10 @@ module _ (h : ℕ) (T : List ℕ) (c : Call) (e : step h T c .answer ≡ 0) wher
       let q = t-in-table h T B K t l (g .tenant) (g .nothing) (g .in-height) (g .fits) in
       let order = grant-in-order h T B K t l (g .tenant) (g .nothing) (g .in-height) (g .fits) in
       let occupies = grant-occupies h T B K t l (g .tenant) (g .nothing) (g .in-height) (g .fits) in
+      let few = grant-moves-few h T l (K .height) (K .in-order) (level-in-counts h T B K l (g .in-height)) M in
       let o : Outcome = granted h T (layoutSet h (oneMore (countsOf h T) l)) t l in
       rw (g .outcome) (record {
-        settled = settled M T t (g .nothing) (λ u ne. refl) o (granted-others M G t q (g .nothing)) refl order occupies;
+        settled = settled M T t (g .nothing) (λ u ne. refl) o (granted-others M G t q (g .nothing)) (omega (arith, few)) refl order occupies;
         sized = λ m. ap (λ (A : Nodes). sizes h A m) (fun-ext occupies) ∙ new-sizes h T B K t l (g .tenant) (g .nothing) (g .in-height) (g .fits) m;
         had-nothing = g .nothing;
         newcomer = granted-newcomer M G t q (g .nothing);
@@ -145,9 +206,12 @@ module _ (h : ℕ) (T : List ℕ) (c : Call) (e : step h T c .answer ≡ 0) wher
       ∙ sym (count-one-more fewer x (level-in-fewer h T B K t (r .tenant) (r .holds)) m)
       ∙ ap (λ (cs : List ℕ). getD cs m 0) (counts-before h T B K t (r .tenant) (r .holds))
       ∙ sym (in-order-counts h T (K .height) (K .in-order) m) in
+      let few =
+      release-moves-few h T t x fewer (K .height) (K .in-order) (level-in-fewer h T B K t (r .tenant) (r .holds))
+      (counts-before h T B K t (r .tenant) (r .holds)) M in
       let o : Outcome = released h T (layoutSet h fewer) t in
       rw (r .outcome) (record {
-        settled = settled M T t out (node-beside-set T t 0) o (λ u ne. refl) refl order occupies;
+        settled = settled M T t out (node-beside-set T t 0) o (λ u ne. refl) (omega (arith, few)) refl order occupies;
         sized = λ m. ap (λ (A : Nodes). sizes h A m + one-if (eqb m x)) (fun-ext occupies) ∙ one-fewer m;
         given-up = refl;
         a-node = r .holds;

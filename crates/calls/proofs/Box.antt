@@ -18,7 +18,7 @@ use Rattle.calls.proofs.Answers.{holder-asks, other-asks, holder-releas
 use Rattle.calls.proofs.Struck.{node-after-set, node-beside-set}
 use Rattle.calls.proofs.Granting.{grant-kept, grant-movable, grant-one-more, t-in-table}
 use Rattle.calls.proofs.Releasing.{release-kept, release-movable, counts-before, level-in-fewer}
-use Rattle.calls.proofs.Reported.{moves-are-changes, nothing-changes, grant-moves-few, release-moves-few}
+use Rattle.calls.proofs.Reported.{moves-are-changes, nothing-changes, listed-few, grant-moves-few, release-moves-few}
 use Rattle.calls.proofs.Cases.{Granted, Released, Case, by-grant, by-release, by-refusal, case}
 
 entered-grant : (c : Call) (l : ℕ) → Asks c l → (B : Book) → enter c 0 B ≡ write (tenantOf c) (some l) B
@@ -65,7 +65,7 @@ module _ (h : ℕ) (T : List ℕ) (B : Book) (K : Kept h T B) where
       let q = t-in-table h T B K t l (g .tenant) (g .nothing) (g .in-height) (g .fits) in
       rw (g .outcome) (record {
         counted = moves-are-changes M T _ t (K .entries) (g .nothing) (λ u ne. refl) (granted-others M G t q (g .nothing));
-        few-if-grant = λ k a. grant-moves-few h T l (K .height) (K .in-order) (level-in-counts h T B K l (g .in-height)) M;
+        few-if-grant = λ k a. listed-few h mostByGrant _ (grant-moves-few h T l (K .height) (K .in-order) (level-in-counts h T B K l (g .in-height)) M);
         few-if-release = λ r. absurd (grants-do-not-release c l (g .asks) r);
       })
 
@@ -77,8 +77,9 @@ module _ (h : ℕ) (T : List ℕ) (B : Book) (K : Kept h T B) where
       rw (r .outcome) (record {
         counted = moves-are-changes M T _ t (length-set T t 0 ∙ K .entries) (node-after-set T t 0 q) (node-beside-set T t 0) (λ u ne. refl);
         few-if-grant = λ l a. absurd (grants-do-not-release c l a (r .asks));
-        few-if-release = λ _. release-moves-few h T t _ _ (K .height) (K .in-order) (level-in-fewer h T B K t (r .tenant) (r .holds))
-            (counts-before h T B K t (r .tenant) (r .holds)) M;
+        few-if-release = λ _. listed-few h mostByRelease _
+            (release-moves-few h T t _ _ (K .height) (K .in-order) (level-in-fewer h T B K t (r .tenant) (r .holds))
+            (counts-before h T B K t (r .tenant) (r .holds)) M);
       })
 
   report : (c : Call) → Report T c (step h T c)

@@ -1,5 +1,5 @@
 -- The planner may be asked in every grant and release that is accepted, and what it plans is what the value-level call says.
-use mathlib.Core.Path.{_≡_, refl, sym, ap, ap₂, _∙_}
+use mathlib.Core.Path.{_≡_, refl, sym, ap, ap₂, _∙_, subst}
 use mathlib.Core.Bool.{Bool, true, false, cond}
 use mathlib.Core.List.{List}
 use Prim.Native.Nat.{ℕ, suc, _+_, _^_, _≤_, _<_}
@@ -19,15 +19,18 @@ use Rattle.layout.specs.Rows.{no-level, rowsOf}
 use Rattle.table.specs.Table.{nodeAt, occupied, countsOf, tenantsAt, InOrder}
 use Rattle.table.specs.Owners.{ownersOf}
 use Rattle.table.specs.Pairing.{newcomer, moved, movesOf, written}
-use Rattle.table.specs.Plan.{movesIn, AllPlanned}
+use Rattle.table.specs.Plan.{movesIn, planOf, AllPlanned}
 use Rattle.table.specs.declared.plan.Plan.{Plan}
 use Rattle.table.specs.declared.plan.Planned.{Planned}
 use Rattle.table.proofs.Used.{tally-le-length}
 use Rattle.table.proofs.Order.{counts-at, in-order-fits}
-use Rattle.table.proofs.Moves.{moves-in-list}
+use Rattle.table.specs.declared.Move.{Move}
+use Rattle.table.proofs.Moved.{moved-in-new}
+use Rattle.table.proofs.Moves.{Moves, moves-in-list}
 use Rattle.table.proofs.Written.{written-is-moved}
-use Rattle.table.proofs.PlanOf.{moves-in-plan-of, count-in-plan-of}
+use Rattle.table.proofs.PlanOf.{moves-in-plan-of, count-in-plan-of, made-of-its-moves}
 use Rattle.table.proofs.PlanLaws.{Replan, plannable, plan-of-table, stored-owners, grant-replan, release-replan}
+use Rattle.carrying.specs.Order.{inOrder, Orderable}
 use Rattle.calls.specs.Step.{granted, released}
 use Rattle.table.specs.Plan.{no-move}
 use Rattle.calls.specs.Value.{Gives, TenantsIn}
@@ -37,7 +40,7 @@ use Rattle.calls.proofs.Kept.{Kept, level-in-counts}
 use Rattle.calls.proofs.Accepted.{bookOf, kept-of-order}
 use Rattle.calls.proofs.Granting.{grant-movable, new-counts-fit}
 use Rattle.calls.proofs.Releasing.{release-movable, counts-before, level-in-fewer, fewer-counts-fit}
-use Rattle.calls.proofs.Reported.{grant-moves-few, release-moves-few}
+use Rattle.calls.proofs.Reported.{listed-few, grant-moves-few, release-moves-few}
 
 -- a reserve has at most 4,096 pages
 pages-below : (h n : ℕ) → h ≤ 12 → n ≤ 2 ^ h → n ≤ 4096
@@ -62,6 +65,25 @@ tenants-of-plan {h} {cs} {ds} {gone} {T} {owners} p x r planned =
           (moves-in-list (p .movable) no-move i (rw count at i<n) .in-table);
     }
 
+-- and its moves are between nodes of the tree
+plan-orderable : {h : ℕ} {cs ds : List ℕ} {gone : ℕ} {T owners : List ℕ} (p : Replan h cs ds gone T owners) (x : ℕ) (r : Planned)
+    → AllPlanned h (rowsOf cs) (rowsOf ds) gone x owners r → Orderable h (r .plan)
+plan-orderable {h} {cs} {ds} {gone} {T} {owners} p x r planned =
+    let moves = movesOf h (layoutSet h ds) T in
+    let q = plan-of-table p x r planned .0 in
+    let count = count-in-plan-of (r .plan) moves q in
+    let at : (i : ℕ) → i < r .plan .n → Moves h (layoutSet h ds) T (getD (r .plan .moves) i no-move) = λ i i<n.
+    rw (← (getD-take (r .plan .n) (r .plan .moves) i no-move i<n), moves-in-plan-of (r .plan) moves q)
+    (moves-in-list (p .movable) no-move i (rw count at i<n)) in
+    record {
+      height = p .height;
+      made = record { whole = made-of-its-moves (r .plan) moves q; few = rw count (p .few) };
+      old-in-tree = λ i i<n. record { above-zero = at i i<n .from-above-zero; in-height = rw (at i i<n .from-is) (p .movable .in-tree _) };
+      new-in-tree = λ i i<n.
+          rw (at i i<n .to-is)
+          (p .movable .within _ (moved-in-new (p .movable) _ (subst (λ (n : ℕ). 0 < n) (at i i<n .from-is) (at i i<n .from-above-zero))));
+    }
+
 module _ (h : ℕ) (T : List ℕ) (h≤12 : h ≤ 12) (entries : length T ≡ 4096) (order : InOrder h T) where
   kept : Kept h T (bookOf h T)
   kept = kept-of-order h T h≤12 entries order
@@ -80,8 +102,8 @@ module _ (h : ℕ) (T : List ℕ) (h≤12 : h ≤ 12) (entries : length T ≡ 40
         grant-replan h T h≤12 order l (ownersOf 8192 T) (stored-owners h T h≤12 order)
         (new-counts-fit h T B kept t l t<4096 nothing l≤h fits) M (omega (arith, few))
 
-    pub grant-few : length (movesOf h (layoutSet h more) T) ≤ 4
-    grant-few = grant-asked .few
+    pub grant-few : length (inOrder h (movesOf h (layoutSet h more) T)) ≤ 4
+    grant-few = listed-few h 4 (movesOf h (layoutSet h more) T) (grant-asked .few)
 
     pub grant-plannable : GrantPlannable h (countsOf h T) l (ownersOf 8192 T)
     grant-plannable = record {
@@ -95,14 +117,21 @@ module _ (h : ℕ) (T : List ℕ) (h≤12 : h ≤ 12) (entries : length T ≡ 40
       pub grant-tenants : TenantsIn T (r .plan)
       grant-tenants = tenants-of-plan grant-asked l r planned
 
-      pub grant-gives : {T′ : List ℕ} → T′ ≡ written T (movesIn (r .plan))
-          → Gives (granted h T (layoutSet h more) t l) (record { answer = Done (r .node); plan = r .plan }) (set T′ t (r .node))
-      grant-gives done =
+      pub grant-orderable : Orderable h (r .plan)
+      grant-orderable = plan-orderable grant-asked l r planned
+
+      pub grant-gives : {T′ : List ℕ} (q : Plan) → T′ ≡ written T (movesIn (r .plan)) → q ≡ planOf (inOrder h (movesIn (r .plan)))
+          → Gives (granted h T (layoutSet h more) t l) (record { answer = Done (r .node); plan = q }) (set T′ t (r .node))
+      grant-gives q done ordered =
           let p = plan-of-table grant-asked l r planned in
           let node : r .node ≡ newcomer h (occupied T) (layoutSet h more) l = p .1 ∙ rw (le-leb l h l≤h) in
           let moves = moves-in-plan-of (r .plan) (movesOf h (layoutSet h more) T) (p .0) in
           let table = done ∙ ap (written T) moves ∙ written-is-moved (grant-asked .movable) in
-          record { answer = ap Done node; plan = p .0; table = λ i. set (table i) t (node i) }
+          record {
+            answer = ap Done node;
+            plan = ordered ∙ ap (λ (ms : List Move). planOf (inOrder h ms)) moves;
+            table = λ i. set (table i) t (node i);
+          }
 
   -- ---- a release
 
@@ -120,8 +149,8 @@ module _ (h : ℕ) (T : List ℕ) (h≤12 : h ≤ 12) (entries : length T ≡ 40
         release-replan h T h≤12 order x t (ownersOf 8192 T) fewer (stored-owners h T h≤12 order) before
         (fewer-counts-fit h T B kept t t<4096 holds) (rw entries t<4096) M few
 
-    pub release-few : length (movesOf h (layoutSet h fewer) (set T t 0)) ≤ 4
-    release-few = release-asked .few
+    pub release-few : length (inOrder h (movesOf h (layoutSet h fewer) (set T t 0))) ≤ 4
+    release-few = listed-few h 4 (movesOf h (layoutSet h fewer) (set T t 0)) (release-asked .few)
 
     pub release-plannable : ReleasePlannable h (countsOf h T) (nodeAt T t) (ownersOf 8192 T)
     release-plannable = record {
@@ -134,9 +163,16 @@ module _ (h : ℕ) (T : List ℕ) (h≤12 : h ≤ 12) (entries : length T ≡ 40
       pub release-tenants : TenantsIn (set T t 0) (r .plan)
       release-tenants = tenants-of-plan release-asked no-level r planned
 
-      pub release-gives : {T′ : List ℕ} → T′ ≡ written (set T t 0) (movesIn (r .plan))
-          → Gives (released h T (layoutSet h fewer) t) (record { answer = Done (nodeAt T t); plan = r .plan }) T′
-      release-gives done =
+      pub release-orderable : Orderable h (r .plan)
+      release-orderable = plan-orderable release-asked no-level r planned
+
+      pub release-gives : {T′ : List ℕ} (q : Plan) → T′ ≡ written (set T t 0) (movesIn (r .plan)) → q ≡ planOf (inOrder h (movesIn (r .plan)))
+          → Gives (released h T (layoutSet h fewer) t) (record { answer = Done (nodeAt T t); plan = q }) T′
+      release-gives q done ordered =
           let p = plan-of-table release-asked no-level r planned in
           let moves = moves-in-plan-of (r .plan) (movesOf h (layoutSet h fewer) (set T t 0)) (p .0) in
-          record { answer = refl; plan = p .0; table = done ∙ ap (written (set T t 0)) moves ∙ written-is-moved (release-asked .movable) }
+          record {
+            answer = refl;
+            plan = ordered ∙ ap (λ (ms : List Move). planOf (inOrder h ms)) moves;
+            table = done ∙ ap (written (set T t 0)) moves ∙ written-is-moved (release-asked .movable);
+          }

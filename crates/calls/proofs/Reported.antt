@@ -20,10 +20,13 @@ use Rattle.layout.specs.Leaving.{leaving}
 use Rattle.layout.proofs.Leaving.{count-mono, grant-leaves-at-most-3, release-leaves-at-most-4}
 use Rattle.table.specs.Table.{nodeAt, occupied, countsOf, InOrder}
 use Rattle.table.specs.Pairing.{moved, movesOf}
+use Rattle.table.specs.declared.Move.{Move}
 use Rattle.table.proofs.Order.{in-order-is-layout}
 use Rattle.table.proofs.Occupied.{tenant-of, occupied-above-zero, occupied-by}
 use Rattle.table.proofs.Moved.{Movable, moved-holds}
 use Rattle.table.proofs.Moves.{changes, moves-counted, moves-by-tenant}
+use Rattle.carrying.specs.Order.{inOrder}
+use Rattle.carrying.proofs.Ordered.{in-order-length}
 use Rattle.calls.specs.Demand.{changed}
 use Rattle.calls.proofs.Struck.{node-after-set, node-beside-set}
 
@@ -46,9 +49,9 @@ module _ {h : ℕ} {N : Nodes} {T₁ : List ℕ} (M : Movable h N T₁) (T T′ 
           by-node (inl z) = rw z
           by-node (inr p) = rw (lt-ltb 0 (nodeAt (moved h N T₁) u) (moved-holds M u p))
 
-  pub moves-are-changes : length (movesOf h N T₁) ≡ changed t T T′
+  pub moves-are-changes : length (inOrder h (movesOf h N T₁)) ≡ changed t T T′
   unfolding changed
-  moves-are-changes = moves-by-tenant M ∙ rw entries (count-cong 4096 _ _ (λ u q. same-test u))
+  moves-are-changes = in-order-length h (movesOf h N T₁) ∙ moves-by-tenant M ∙ rw entries (count-cong 4096 _ _ (λ u q. same-test u))
 
 never : (b x : Bool) → ¬ ((b && (x && (x && false))) ≡ true)
 never true true e = false≢true e
@@ -64,6 +67,10 @@ nothing-changes t T = count-of-none 4096 _ (λ u q e. same (nodeAt T u) (not (eq
     same n b e = never b (ltb 0 n) (rw (eq-eqb n n refl) at e)
 
 -- ---- the bounds
+
+-- the list has no more entries than there are moves
+pub listed-few : (h n : ℕ) (ms : List Move) → length ms ≤ n → length (inOrder h ms) ≤ n
+listed-few h n ms q = rw (in-order-length h ms) q
 
 struck-was-occupied : (T : List ℕ) (t n : ℕ) → occupied (set T t 0) n ≡ true → occupied T n ≡ true
 struck-was-occupied T t n p = go (tenant-of (set T t 0) n p)

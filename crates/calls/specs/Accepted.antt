@@ -1,4 +1,4 @@
--- What an accepted grant or release does, for every height and table. Demand 2, and document 01's "Calls".
+-- What an accepted grant or release does, for every height and table. Demand 2, document 01's "Calls", and the list of document 02, L2.
 use mathlib.Core.Path.{_≡_}
 use mathlib.Core.Bool.{true}
 use mathlib.Core.List.{List}
@@ -8,9 +8,10 @@ use lib.ListN.{length, getD}
 use Rattle.tree.specs.Node.{level}
 use Rattle.tree.specs.Held.{Within, Legal, Safe, sizes, one-if}
 use Rattle.table.specs.Table.{nodeAt, occupied}
-use Rattle.table.specs.Paired.{MoversPaired, MoversFill, NewcomerPaired, ListInOrder}
+use Rattle.table.specs.Paired.{MoversPaired, MoversFill, NewcomerPaired}
 use Rattle.table.specs.Plan.{no-move}
 use Rattle.table.specs.declared.Move.{Move}
+use Rattle.carrying.specs.Carrying.{Workable}
 use Rattle.calls.specs.Call.{Call, tenantOf}
 use Rattle.calls.specs.Step.{Outcome, step}
 use Rattle.calls.specs.Demand.{Asks, Releases}
@@ -44,8 +45,8 @@ pub record Settled (h t : ℕ) (T : List ℕ) (o : Outcome) : Type 0 where
       → (i : ℕ) × (i < length (o .moves)) × (getD (o .moves) i no-move .tenant ≡ u)
   pub once : (i j : ℕ) → i < length (o .moves) → j < length (o .moves)
       → getD (o .moves) i no-move .tenant ≡ getD (o .moves) j no-move .tenant → i ≡ j
-  -- the list goes by level from 0 up, then by old node left to right
-  pub list-in-order : ListInOrder h no-move (o .moves)
+  -- the list can be carried out, and is the one that document 02, L2, chooses among all plans
+  pub workable : Workable h t T (o .table) (o .moves)
 
 -- a grant at level l: one more block there, and the newcomer has it and the answer names it
 pub record AfterGrant (h : ℕ) (T : List ℕ) (t l : ℕ) (o : Outcome) : Type 0 where

@@ -1,5 +1,5 @@
 -- What each call answers and what it leaves in the table, for every height, table and argument. Document 01, "Calls" and "Refusals by place";
--- refusal 6 as document 02, L1, has it.
+-- refusal 6 as document 02, L1, has it, and the list of moves as L2.
 use mathlib.Core.Bool.{Bool, not, cond}
 use mathlib.Core.List.{List, [], _∷_, _++_}
 use Prim.Native.Nat.{ℕ, zero, suc, _+_, _^_}
@@ -13,6 +13,7 @@ use Rattle.layout.specs.Change.{oneMore, oneFewer}
 use Rattle.table.specs.Table.{withNode, nodeAt, occupied, countsOf, in-order?}
 use Rattle.table.specs.Pairing.{newcomer, moved, movesOf}
 use Rattle.table.specs.declared.Move.{Move}
+use Rattle.carrying.specs.Order.{inOrder}
 use Rattle.calls.specs.Call.{Call, grant-level, grant-pages, release, levelFor}
 
 -- what a call reports, and the table afterwards
@@ -89,7 +90,7 @@ abbrev pub granted : ℕ → List ℕ → Nodes → ℕ → ℕ → Outcome
 granted h T N t l = record {
   answer = 0;
   node = newcomer h (occupied T) N l;
-  moves = movesOf h N T;
+  moves = inOrder h (movesOf h N T);
   table = set (moved h N T) t (withNode 0 (newcomer h (occupied T) N l));
 }
 
@@ -98,7 +99,7 @@ abbrev pub released : ℕ → List ℕ → Nodes → ℕ → Outcome
 released h T N t = record {
   answer = 0;
   node = nodeAt T t;
-  moves = movesOf h N (set T t 0);
+  moves = inOrder h (movesOf h N (set T t 0));
   table = moved h N (set T t 0);
 }
 

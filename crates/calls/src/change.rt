@@ -12,6 +12,7 @@ use crate::carry::carry_out;
 use crate::planning::plan_grant;
 use crate::planning::plan_release;
 use crate::refused;
+use carrying::in_order;
 use layout::Counts;
 use layout::NO_LEVEL;
 use refusal::HOLDS;
@@ -78,7 +79,7 @@ fn grant(
     table[t] = node;
     Called {
         answer: Answer::Done { node },
-        plan,
+        plan: in_order(height, plan),
     }
 }
 
@@ -105,6 +106,6 @@ fn give_up(
     carry_out(table, plan);
     Called {
         answer: Answer::Done { node },
-        plan,
+        plan: in_order(height, plan),
     }
 }

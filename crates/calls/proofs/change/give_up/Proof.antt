@@ -12,7 +12,7 @@ use Rattle.table.proofs.Order.{in-order-iff}
 use Rattle.table.proofs.Written.{written-length}
 use Rattle.calls.specs.Changes.{ReleasePlannable, ReleasePlanned}
 use Rattle.calls.proofs.Changing.{release-by-nobody, release-by-holder, of-looked, of-table}
-use Rattle.calls.proofs.Changed.{release-plannable, release-tenants, release-gives}
+use Rattle.calls.proofs.Changed.{release-plannable, release-tenants, release-orderable, release-gives}
 use Rattle.calls.proofs.Given.{above-zero, gives-same}
 use borrow.Author.Needs.{needs}
 use Rattle.calls.proofs.change.give_up.Statement.{statement}
@@ -90,26 +90,36 @@ carry-out-requires c κs =
     release-tenants (start .args .height) (start .args .table .now) (ready .height) (ready .entries) (order x) (start .args .tenant) (ready .tenant)
     (holds x) (y .plan-release .result) (planned y)
 
+in-order-requires : tie.Need-in-order-requires
+in-order-requires c κs =
+    let y = c .before .before .before .before .before in
+    let x = y .before in
+    let start = started x in
+    let ready = start .pre .0 in
+    release-orderable (start .args .height) (start .args .table .now) (ready .height) (ready .entries) (order x) (start .args .tenant) (ready .tenant)
+    (holds x) (y .plan-release .result) (planned y)
+
 same-length : tie.Need-same-length
 same-length c =
-    let y = c .before .before .before .before .before in
+    let y = c .before .before .before .before .before .before in
     let a = started (y .before) .args in
-    ap length (c .before .before .carry-out .ensures)
+    ap length (c .before .before .before .carry-out .ensures)
     ∙ written-length (set (a .table .now) (a .tenant) 0) (movesIn (y .plan-release .result .plan))
     ∙ length-set (a .table .now) (a .tenant) 0
 
 returns-2 : tie.Need-returns-2
 returns-2 c =
-    let y = c .before .before .before .before .before in
+    let y = c .before .before .before .before .before .before in
     let x = y .before in
     let start = started x in
     let h = start .args .height in
     let T = start .args .table .now in
     let t = start .args .tenant in
     let ready = start .pre .0 in
-    let done = c .before .before .carry-out .ensures in
+    let done = c .before .before .before .carry-out .ensures in
     gives-same
-    (release-gives h T (ready .height) (ready .entries) (order x) t (ready .tenant) (holds x) (y .plan-release .result) (planned y) done)
+    (release-gives h T (ready .height) (ready .entries) (order x) t (ready .tenant) (holds x) (y .plan-release .result) (planned y)
+    (c .in-order .result) done (c .in-order .ensures))
     (release-by-holder h T t (start .pre .1 .in-order) (x .if1 .left))
 
 pub give-up-spec : {M : Type 1} → statement M
@@ -124,5 +134,6 @@ give-up-spec =
     mul-table
     slice-write-table
     carry-out-requires
+    in-order-requires
     same-length
     returns-2)

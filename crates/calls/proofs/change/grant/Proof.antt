@@ -15,7 +15,7 @@ use Rattle.table.specs.declared.plan.Planned.{Planned}
 use Rattle.calls.specs.Changes.{GrantPlannable, GrantPlanned}
 use Rattle.calls.proofs.Changing.{grant-to-holder, grant-without-room, grant-with-room, of-looked, of-table}
 use Rattle.calls.proofs.Given.{above-zero, gives-same}
-use Rattle.calls.proofs.Changed.{grant-plannable, grant-tenants, grant-gives}
+use Rattle.calls.proofs.Changed.{grant-plannable, grant-tenants, grant-orderable, grant-gives}
 use borrow.Author.Needs.{needs}
 use Rattle.calls.proofs.change.grant.Statement.{statement}
 use Rattle.calls.proofs.change.grant.Tie as tie
@@ -126,12 +126,22 @@ mul-table c = search needs
 slice-write-table : tie.Need-slice-write-table
 slice-write-table c = search needs
 
+in-order-requires : tie.Need-in-order-requires
+in-order-requires c κs =
+    let y = c .before .before .before .before .before in
+    let x = y .before in
+    let start = started x in
+    let a = start .args in
+    let ready = start .pre .0 in
+    grant-orderable (a .height) (a .table .now) (ready .height) (ready .entries) (order x) (a .tenant) (a .level) (ready .tenant) (nothing x)
+    (start .pre .1 .0) (room x) (y .plan-grant .result) (planned y)
+
 same-length : tie.Need-same-length
 same-length c = search needs
 
 returns-3 : tie.Need-returns-3
 returns-3 c =
-    let y = c .before .before .before .before .before in
+    let y = c .before .before .before .before .before .before in
     let x = y .before in
     let start = started x in
     let h = start .args .height in
@@ -140,9 +150,10 @@ returns-3 c =
     let l = start .args .level in
     let ready = start .pre .0 in
     let low = start .pre .1 .0 in
-    let done = c .before .before .carry-out .ensures in
+    let done = c .before .before .before .carry-out .ensures in
     gives-same
-    (grant-gives h T (ready .height) (ready .entries) (order x) t l (ready .tenant) (nothing x) low (room x) (y .plan-grant .result) (planned y) done)
+    (grant-gives h T (ready .height) (ready .entries) (order x) t l (ready .tenant) (nothing x) low (room x) (y .plan-grant .result) (planned y)
+    (c .in-order .result) done (c .in-order .ensures))
     (grant-with-room h T t l (start .pre .1 .1 .in-order) (nothing x) (room x))
 
 pub grant-spec : {M : Type 1} → statement M
@@ -160,5 +171,6 @@ grant-spec =
     carry-out-requires
     mul-table
     slice-write-table
+    in-order-requires
     same-length
     returns-3)
