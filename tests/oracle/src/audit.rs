@@ -1,13 +1,15 @@
 //! What one planning call owes its caller, told from the tables before and after it.
 //!
 //! Nothing here plans: the moves are held against the differences of the tables and against the rules for who stays,
-//! who goes where, in which order, and how many may be moved at all.
+//! who goes where, in which order, and how many may be moved at all; and they are carried out.
 
 use crate::book::{level_wanted, occupied};
+use crate::carrying::Move;
 use crate::definitions::{Node, Tree};
 use crate::occupancy::is_legal_and_safe;
-use crate::planner::{Move, Request};
+use crate::planner::Request;
 use crate::refusal::DONE;
+use crate::runtime::{carry_out, staged_come_last};
 
 /// The most tenants that a grant may move.
 pub const MOST_FOR_GRANT: usize = 3;
@@ -43,9 +45,15 @@ pub fn audit(tree: Tree, seen: &Seen) -> Result<(), String> {
         return Ok(());
     }
     own_entry(seen)?;
-    moves_are_the_differences(tree, seen)?;
+    moves_are_the_differences(seen)?;
     movers_had_to_move(tree, seen)?;
     pairing_is_left_to_right(tree, seen)?;
+    ensure!(
+        staged_come_last(seen.moves),
+        "the staged ones do not come last by tenant number: {:?}",
+        seen.moves
+    );
+    carry_out(tree, seen.before, seen.after, seen.moves)?;
     let most = match level_wanted(seen.request) {
         Some(_) => MOST_FOR_GRANT,
         None => MOST_FOR_RELEASE,
@@ -70,23 +78,27 @@ fn own_entry(seen: &Seen) -> Result<(), String> {
     Ok(())
 }
 
-/// The list has every other tenant whose node changed, by level and then left to right, and nobody else.
-fn moves_are_the_differences(tree: Tree, seen: &Seen) -> Result<(), String> {
+/// The list has every other tenant whose node changed, once, and nobody else.
+fn moves_are_the_differences(seen: &Seen) -> Result<(), String> {
     let own = seen.request.tenant();
-    let mut differences: Vec<Move> = (0..)
+    let differences: Vec<(u16, Node, Node)> = (0..)
         .zip(seen.before.iter().zip(seen.after))
         .filter(|&(tenant, (old, new))| old != new && u32::from(tenant) != own)
-        .map(|(tenant, (&old, &new))| Move { tenant, old, new })
+        .map(|(tenant, (&old, &new))| (tenant, old, new))
         .collect();
     ensure!(
-        differences.iter().all(|step| step.old != 0 && step.new != 0),
+        differences.iter().all(|&(_, old, new)| old != 0 && new != 0),
         "somebody else came or went: {differences:?}"
     );
-    differences.sort_by_key(|step| (tree.level(step.old), step.old));
+    let mut listed: Vec<(u16, Node, Node)> = seen
+        .moves
+        .iter()
+        .map(|step| (step.tenant, step.old, step.new))
+        .collect();
+    listed.sort_unstable();
     ensure!(
-        seen.moves == differences,
-        "the moves are {:?}, the differences {differences:?}",
-        seen.moves
+        listed == differences,
+        "the moves are {listed:?}, the differences {differences:?}"
     );
     Ok(())
 }
@@ -105,7 +117,9 @@ fn movers_had_to_move(tree: Tree, seen: &Seen) -> Result<(), String> {
 
 /// Within a level nobody overtakes anybody, and the newcomer ends up rightmost.
 fn pairing_is_left_to_right(tree: Tree, seen: &Seen) -> Result<(), String> {
-    for pair in seen.moves.windows(2) {
+    let mut left_to_right = seen.moves.to_vec();
+    left_to_right.sort_unstable_by_key(|step| step.old);
+    for pair in left_to_right.windows(2) {
         let same_level = tree.level(pair[0].old) == tree.level(pair[1].old);
         ensure!(
             !same_level || pair[0].new < pair[1].new,

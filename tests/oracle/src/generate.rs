@@ -8,7 +8,7 @@ use crate::journal::{Record, LONGEST};
 use crate::lifting;
 use crate::planner::{Request, FEWEST_ENTRIES, TENANTS};
 use crate::random::Random;
-use crate::subject::{Reach, MOVE_BYTES};
+use crate::subject::{Reach, FEWEST_MOVE_BYTES, MOVE_BYTES};
 
 /// A request with the length of the move list that is lent for it.
 #[derive(Clone, Copy, Debug, PartialEq, Eq)]
@@ -170,10 +170,12 @@ impl<'a> Author<'a> {
     /// The next call, with its answer entered.
     pub fn call(&mut self) -> Call {
         let request = self.request();
+        let enough = FEWEST_MOVE_BYTES;
         let move_bytes = if self.random.one_in(25) {
-            self.random.pick(&[0, 1, 6, 18, 23])
+            self.random.pick(&[0, 1, MOVE_BYTES, enough - MOVE_BYTES, enough - 1])
         } else {
-            self.random.pick(&[24, 24, 24, 25, 30, 48])
+            self.random
+                .pick(&[enough, enough, enough, enough + 1, enough + MOVE_BYTES, 2 * enough])
         };
         let answer = self.book.answer(request, move_bytes / MOVE_BYTES);
         self.book.enter(request, answer);
@@ -376,7 +378,7 @@ pub fn steer(random: &mut Random, book: &mut Book, target: &Counts) -> Vec<Call>
         requests.push(Request::GrantLevel { tenant, level });
         book.enter(Request::GrantLevel { tenant, level }, 0);
     }
-    let move_bytes = FEWEST_ENTRIES * MOVE_BYTES;
+    let move_bytes = FEWEST_MOVE_BYTES;
     requests
         .into_iter()
         .map(|request| Call { request, move_bytes })

@@ -5,10 +5,11 @@
 //!
 //! - [`definitions`] has the words about sets of nodes (legal, dense, safe, ...) exactly as they are defined, and for
 //!   small trees every set there is; [`occupancy`] has the words for tall trees, where nodes are counted beforehand;
-//! - [`lifting`] builds the safe layout of any counts on a row of labelled pages, by the lifting rule;
-//! - [`planner`] has the calls with their refusals, pairing and moves, [`page_map`] the map, [`journal`] and
-//!   [`listing`] the journal;
-//! - [`book`] and [`audit`] state what every planner owes its callers without planning anything themselves;
+//! - [`lifting`] builds the safe layout of any counts on a [`row`] of labelled pages, by the lifting rule;
+//! - [`planner`] has the calls with their refusals and pairing, [`carrying`] tries all lists of their moves,
+//!   [`page_map`] has the map, [`journal`] and [`listing`] the journal;
+//! - [`book`] and [`audit`] state what every planner owes its callers without planning anything themselves, and
+//!   [`runtime`] carries out the moves;
 //! - [`subject`] is the door through which a planner under test is reached, and [`compare`] knocks on it, with what
 //!   [`generate`] makes up from the seeds of [`random`], and with [`shrink`] to shorten what fails.
 
@@ -25,6 +26,7 @@ macro_rules! ensure {
 
 pub mod audit;
 pub mod book;
+pub mod carrying;
 pub mod compare;
 pub mod definitions;
 pub mod generate;
@@ -36,5 +38,7 @@ pub mod page_map;
 pub mod planner;
 pub mod random;
 pub mod refusal;
+pub mod row;
+pub mod runtime;
 pub mod shrink;
 pub mod subject;

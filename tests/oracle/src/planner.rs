@@ -3,6 +3,7 @@
 //! A call is a function: it gets the table as it is and hands back the table as it will be. A refused call hands back
 //! the table it got.
 
+use crate::carrying::{Change, Move};
 use crate::definitions::{Counts, Node, Tree, TALLEST};
 use crate::lifting;
 use crate::refusal::{self, Refusal};
@@ -39,14 +40,6 @@ pub struct Lent<'a> {
     pub entries: usize,
 }
 
-/// A tenant that has to go from one node to another.
-#[derive(Clone, Copy, Debug, PartialEq, Eq)]
-pub struct Move {
-    pub tenant: u16,
-    pub old: Node,
-    pub new: Node,
-}
-
 /// Everything there is to see after a call.
 #[derive(Clone, Debug, PartialEq, Eq)]
 pub struct Outcome {
@@ -61,6 +54,18 @@ struct Plan {
     node: Node,
     moves: Vec<Move>,
     table: Vec<Node>,
+}
+
+impl Plan {
+    /// The plan that turns one table into another.
+    fn between(tree: Tree, node: Node, before: &[Node], after: Vec<Node>) -> Self {
+        let moves = Change::between(tree, before, &after).plan();
+        Plan {
+            node,
+            moves: moves.expect("a list for places that are apart"),
+            table: after,
+        }
+    }
 }
 
 /// Starts a reserve with nobody in it.
@@ -177,11 +182,7 @@ fn grant(tree: Tree, table: &[Node], mut counts: Counts, tenant: usize, level: u
     let node = left_over.next().expect("a place for the newcomer");
     assert!(left_over.next().is_none() && tree.level(node) == level);
     settled.table[tenant] = node;
-    Ok(Plan {
-        node,
-        moves: settled.moves,
-        table: settled.table,
-    })
+    Ok(Plan::between(tree, node, table, settled.table))
 }
 
 fn release(tree: Tree, table: &[Node], mut counts: Counts, tenant: usize) -> Result<Plan, Refusal> {
@@ -194,17 +195,12 @@ fn release(tree: Tree, table: &[Node], mut counts: Counts, tenant: usize) -> Res
     remaining[tenant] = 0;
     let settled = settle(tree, remaining, &counts);
     assert!(settled.vacant.is_empty());
-    Ok(Plan {
-        node,
-        moves: settled.moves,
-        table: settled.table,
-    })
+    Ok(Plan::between(tree, node, table, settled.table))
 }
 
 /// The tenants of a table after they have gone to their places in a new layout.
 struct Settled {
     table: Vec<Node>,
-    moves: Vec<Move>,
     /// The places that nobody was there to take, ascending.
     vacant: Vec<Node>,
 }
@@ -231,20 +227,13 @@ fn settle(tree: Tree, mut table: Vec<Node>, counts: &Counts) -> Settled {
         .filter(|&node| !stayed_on[usize::from(node)])
         .collect();
 
-    let mut moves = Vec::new();
     let mut vacant = Vec::new();
     for level in tree.levels() {
         let mut places_here = places.iter().copied().filter(|&node| tree.level(node) == level);
-        for &(old, tenant) in movers.iter().filter(|&&(old, _)| tree.level(old) == level) {
-            let new = places_here.next().expect("a place for every mover");
-            table[tenant] = new;
-            moves.push(Move {
-                tenant: tenant as u16,
-                old,
-                new,
-            });
+        for &(_, tenant) in movers.iter().filter(|&&(old, _)| tree.level(old) == level) {
+            table[tenant] = places_here.next().expect("a place for every mover");
         }
         vacant.extend(places_here);
     }
-    Settled { table, moves, vacant }
+    Settled { table, vacant }
 }

@@ -6,18 +6,22 @@
 //! [`Count`] or [`Reading`]. Nothing may be checked or repaired on the way. If a parameter is narrower than the `u32` here, say so
 //! in [`Subject::reach`], so that no number is handed over that the door cannot take.
 
+use crate::carrying::Move;
 use crate::definitions::Node;
 use crate::journal::{self, Reading, Record};
 use crate::listing;
 use crate::page_map;
-use crate::planner::{self, Lent, Move, Request, TENANTS};
+use crate::planner::{self, Lent, Request, FEWEST_ENTRIES, TENANTS};
 use crate::refusal::{self, DONE};
 
 /// The only length of a table's image.
 pub const TABLE_BYTES: usize = 2 * TENANTS;
 
 /// The length of one move's image.
-pub const MOVE_BYTES: usize = 6;
+pub const MOVE_BYTES: usize = 8;
+
+/// The length of the shortest list of moves that is taken. It suffices for every call.
+pub const FEWEST_MOVE_BYTES: usize = FEWEST_ENTRIES * MOVE_BYTES;
 
 /// What a planning call reports besides what it writes.
 #[derive(Clone, Copy, Debug, PartialEq, Eq)]
@@ -124,6 +128,7 @@ pub fn moves_from(image: &[u8], number: u32) -> Vec<Move> {
             tenant: word(entry, 0),
             old: word(entry, 2),
             new: word(entry, 4),
+            staged: word(entry, 6) != 0,
         })
         .collect()
 }
@@ -131,7 +136,7 @@ pub fn moves_from(image: &[u8], number: u32) -> Vec<Move> {
 /// Writes moves to the front of a list's image.
 pub fn put_moves(moves: &[Move], image: &mut [u8]) {
     for (step, entry) in moves.iter().zip(image.chunks_exact_mut(MOVE_BYTES)) {
-        let words = [step.tenant, step.old, step.new];
+        let words = [step.tenant, step.old, step.new, step.staged.into()];
         let bytes: Vec<u8> = words.iter().flat_map(|word| word.to_le_bytes()).collect();
         entry.copy_from_slice(&bytes);
     }

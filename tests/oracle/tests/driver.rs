@@ -1,12 +1,18 @@
 //! The driver finds nothing where nothing is wrong, and finds every planted mistake.
 
 mod faulty;
+mod made_up;
 
+use faulty::lists::{ListFault, Tables};
 use faulty::{Fault, Faulty, Narrow, ThirdOfItsSize};
+use made_up::MadeUp;
+use oracle::carrying::Move;
 use oracle::compare::{first_finding, run, same_history, Amounts, Tally};
+use oracle::definitions::{Node, Tree};
 use oracle::generate::{history, Call};
 use oracle::planner::Request;
 use oracle::random::Random;
+use oracle::runtime::{carry_out, staged_come_last};
 use oracle::shrink::shorten;
 use oracle::subject::{Oracle, Subject};
 
@@ -52,6 +58,7 @@ macro_rules! found {
 found! {
     wrong_places_are_found: Fault::PLACES, ["every counts vector"];
     wrong_reports_are_found: Fault::REPORTS, ["every counts vector"];
+    wrong_lists_are_found: ListFault::ON_RESERVES.map(Fault::List), ["every counts vector"];
     wrong_refusals_are_found: Fault::REFUSALS,
         ["edges of the arguments", "every counts vector", "histories", "damaged tables"];
     wrong_sizes_are_found: Fault::SIZES, ["edges of the sizes"];
@@ -62,6 +69,7 @@ found! {
     wrong_listings_are_found: Fault::LISTINGS, ["journals"];
     /// Histories alone are enough as well, without the start from a prepared table.
     wrong_places_are_found_in_histories: Fault::PLACES, ["histories"];
+    wrong_lists_are_found_in_histories: ListFault::ON_RESERVES.map(Fault::List), ["histories"];
 }
 
 /// The driver respects how far a door reaches.
@@ -148,4 +156,81 @@ fn a_finding_names_the_seed_and_the_calls() {
             .is_some_and(|line| line.starts_with("  call 3: the reply is ")),
         "{report}"
     );
+}
+
+/// A list as it is told in a listing.
+fn told(list: &[Move]) -> String {
+    let tell = |step: &Move| {
+        let sign = if step.staged { '=' } else { '>' };
+        format!("{}:{}{sign}{}", step.tenant, step.old, step.new)
+    };
+    list.iter().map(tell).collect::<Vec<String>>().join(" ")
+}
+
+/// Runs a check on the tables of a mistake's example, with its right list and its wrong one as they are told.
+fn with_example(fault: ListFault, check: impl FnOnce(Tables, &str, &str)) {
+    let (height, nodes, right, wrong) = fault.example();
+    let (before, after): (Vec<Node>, Vec<Node>) = nodes.iter().copied().unzip();
+    let tables = Tables {
+        tree: Tree::new(height),
+        before: &before,
+        after: &after,
+    };
+    check(tables, right, wrong);
+}
+
+fn every_list_fault() -> impl Iterator<Item = ListFault> {
+    ListFault::ON_RESERVES.into_iter().chain(ListFault::ON_OTHER_MOVERS)
+}
+
+/// So none of them goes untried, whether or not a reserve can show it.
+#[test]
+fn each_wrong_list_shows_on_movers_made_up_by_hand() {
+    for fault in every_list_fault() {
+        with_example(fault, |tables, right, wrong| {
+            assert_eq!(told(&tables.right_list()), right, "{fault:?}");
+            assert_eq!(told(&fault.list(tables)), wrong, "{fault:?}");
+        });
+    }
+}
+
+/// Whoever works through a wrong list comes upon the mistake, unless it is only about who should be staged.
+#[test]
+fn wrong_lists_are_noticed_while_they_are_carried_out() {
+    let stage_others = [
+        ListFault::EverybodyStaged,
+        ListFault::FewestTenantsBeforePages,
+        ListFault::TenantsNotCounted,
+        ListFault::LaterOfTwoEqualSets,
+        ListFault::ReleasedBlockInTheWay,
+        ListFault::NewcomerBeforeTheOthers,
+    ];
+    let is_fine = |tables: Tables, list: &[Move]| {
+        staged_come_last(list) && carry_out(tables.tree, tables.before, tables.after, list).is_ok()
+    };
+    for fault in every_list_fault() {
+        with_example(fault, |tables, _, _| {
+            assert!(is_fine(tables, &tables.right_list()), "{fault:?}");
+            assert_eq!(
+                is_fine(tables, &fault.list(tables)),
+                stage_others.contains(&fault),
+                "{fault:?}"
+            );
+        });
+    }
+}
+
+/// Most mistakes are planted in a search that looks at no pages. Without one it finds the lists that are right.
+#[test]
+fn who_waits_for_whom_decides_as_the_pages_do() {
+    let mut random = Random::new(26);
+    for round in 0..20_000 {
+        let made_up = MadeUp::draw(&mut random, Tree::new(2 + round % 4));
+        let tables = Tables {
+            tree: made_up.tree,
+            before: &made_up.before,
+            after: &made_up.after,
+        };
+        assert_eq!(tables.list_by_waits(), tables.right_list(), "{tables:?}");
+    }
 }

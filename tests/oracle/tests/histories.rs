@@ -10,7 +10,7 @@ use oracle::definitions::{Node, Tree, TALLEST};
 use oracle::generate::{any_fill, history, history_on_full, holders_for, seat, steer, Call, Damage, History};
 use oracle::planner::{self, Lent, Outcome, Request, TENANTS};
 use oracle::random::Random;
-use oracle::subject::{Oracle, Reach, Subject, MOVE_BYTES};
+use oracle::subject::{Oracle, Reach, Subject, FEWEST_MOVE_BYTES, MOVE_BYTES};
 use small::{trees, trees_with_counts};
 
 fn reach() -> Reach {
@@ -151,7 +151,7 @@ fn every_grant_and_release_up_to_height_5() {
         let moves = |request| {
             let call = Call {
                 request,
-                move_bytes: 24,
+                move_bytes: FEWEST_MOVE_BYTES,
             };
             checked_call(&mut book.clone(), &table, &call).moves.len()
         };

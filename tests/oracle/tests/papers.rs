@@ -1,14 +1,16 @@
 //! Everything that document 01, as changed by the requests of document 02 that have landed, gives as an example, an edge
 //! or a mistake.
 
+use oracle::carrying::Move;
 use oracle::definitions::{is_free, is_legal, Counts, Node, Tree};
 use oracle::generate::journal_of;
 use oracle::journal::{self, Reading, Record, LONGEST};
 use oracle::lifting::layout;
 use oracle::listing::list;
 use oracle::page_map::{self, MAP_BYTES};
-use oracle::planner::{self, Lent, Move, Outcome, Request, TENANTS};
+use oracle::planner::{self, Lent, Outcome, Request, TENANTS};
 use oracle::refusal::Refusal;
+use oracle::subject::{moves_from, put_moves, Oracle, Subject, FEWEST_MOVE_BYTES, MOVE_BYTES};
 
 /// Counts from those of the lowest levels.
 fn counts(lowest: &[u32]) -> Counts {
@@ -47,8 +49,21 @@ fn release(tenant: u32) -> Request {
     Request::Release { tenant }
 }
 
-fn step(tenant: u16, old: Node, new: Node) -> Move {
-    Move { tenant, old, new }
+fn direct(tenant: u16, old: Node, new: Node) -> Move {
+    let staged = false;
+    Move {
+        tenant,
+        old,
+        new,
+        staged,
+    }
+}
+
+fn staged(tenant: u16, old: Node, new: Node) -> Move {
+    Move {
+        staged: true,
+        ..direct(tenant, old, new)
+    }
 }
 
 const LAYOUTS: [(u32, &[u32], &[Node]); 12] = [
@@ -91,15 +106,22 @@ const BEFORE: [Node; 5] = [16, 34, 9, 12, 5];
 fn the_height_5_grant_and_release() {
     let granted = call(5, &table(&BEFORE), grant(77, 1));
     assert_eq!((granted.answer, granted.node), (0, 17));
-    assert_eq!(granted.moves, [step(1, 34, 44), step(3, 12, 10), step(4, 5, 6)]);
+    // Tenants 3 and 4 lie in each other's way, and 3 has fewer pages; 1 goes where 4 was.
+    assert_eq!(granted.moves, [direct(4, 5, 6), direct(1, 34, 44), staged(3, 12, 10)]);
     assert_eq!(granted.table[..5], [16, 44, 9, 10, 6]);
     assert_eq!(granted.table[77], 17);
 
     let released = call(5, &granted.table, release(0));
     assert_eq!((released.answer, released.node), (0, 16));
+    // Nobody but 77 can go at first, onto the pages given up; 1 goes where it was, and 4 where 1 and 3 were.
     assert_eq!(
         released.moves,
-        [step(1, 44, 34), step(77, 17, 16), step(3, 10, 12), step(4, 6, 5)]
+        [
+            direct(77, 17, 16),
+            direct(1, 44, 34),
+            direct(4, 6, 5),
+            staged(3, 10, 12)
+        ]
     );
     assert_eq!(released.table[..5], [0, 34, 9, 12, 5]);
     assert_eq!(released.table[77], 16);
@@ -111,7 +133,7 @@ const LISTING: &str = "\
 1 O 2 - 0 - 0
 2 G 0 1 0 2 0
 3 G 1 0 0 6 0
-4 G 2 0 0 5 2 1:6>4 0:2>3
+4 G 2 0 0 5 2 0:2>3 1:6=4
 5 R 7 - 9 - 0
 6 P 3 1 10 - 0
 ";
@@ -123,6 +145,27 @@ fn listing(journal: &[u8]) -> String {
 #[test]
 fn the_listing_of_22_bytes() {
     assert_eq!(listing(&JOURNAL), LISTING);
+}
+
+#[test]
+fn moves_are_four_numbers_of_two_bytes() {
+    let moves = [direct(0x0102, 2, 3), staged(1, 6, 0x1004)];
+    let mut image = [0xa5; 20];
+    put_moves(&moves, &mut image);
+    let bytes = [2, 1, 2, 0, 3, 0, 0, 0, 1, 0, 6, 0, 4, 16, 1, 0];
+    assert_eq!(image, [&bytes[..], &[0xa5; 4]].concat()[..]);
+    assert_eq!(moves_from(&image, 2), moves);
+    assert_eq!((MOVE_BYTES, FEWEST_MOVE_BYTES), (8, 32));
+}
+
+#[test]
+fn fewer_than_32_bytes_are_too_short_a_list() {
+    for length in 0..=64 {
+        let mut moves = vec![0xa5; length];
+        let reply = Oracle.grant_level(0, &mut vec![0; 2 * TENANTS], &mut moves, 0, 0);
+        assert_eq!(reply.answer, if length < 32 { 3 } else { 0 }, "{length} bytes");
+        assert!(moves.iter().all(|&byte| byte == 0xa5));
+    }
 }
 
 #[test]
@@ -453,7 +496,7 @@ fn the_newcomer_is_not_paired_by_tenant_number() {
     held[2] = 2;
     let outcome = call(2, &held, grant(0, 0));
     assert_eq!((outcome.answer, outcome.node), (0, 5));
-    assert_eq!(outcome.moves, [step(1, 6, 4), step(2, 2, 3)]);
+    assert_eq!(outcome.moves, [direct(2, 2, 3), staged(1, 6, 4)]);
 }
 
 #[test]
@@ -465,5 +508,5 @@ fn movers_are_not_paired_by_tenant_number() {
     }
     let outcome = call(3, &held, release(0));
     assert_eq!((outcome.answer, outcome.node), (0, 8));
-    assert_eq!(outcome.moves, [step(7, 10, 8), step(3, 11, 12), step(4, 6, 5)]);
+    assert_eq!(outcome.moves, [direct(7, 10, 8), direct(4, 6, 5), staged(3, 11, 12)]);
 }

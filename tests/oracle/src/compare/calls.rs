@@ -9,14 +9,13 @@ use crate::audit::{audit, is_in_order, Seen, MOST_FOR_GRANT};
 use crate::book::{level_wanted, occupied, Book};
 use crate::definitions::{Node, Tree, TALLEST};
 use crate::generate::{any_fill, history, history_on_full, holders_for, seat, steer, Call, Damage, History, Holder};
-use crate::planner::{Request, FEWEST_ENTRIES, TENANTS};
+use crate::planner::{self, Request, FEWEST_ENTRIES, TENANTS};
 use crate::random::Random;
 use crate::refusal::{Refusal, DONE};
 use crate::shrink::shorten;
-use crate::subject::{ask, moves_from, table_from, table_image, Oracle, Reply, Subject, MOVE_BYTES, TABLE_BYTES};
-
-/// The move list that suffices for every call.
-const ENOUGH: usize = FEWEST_ENTRIES * MOVE_BYTES;
+use crate::subject::{
+    ask, moves_from, table_from, table_image, Oracle, Reply, Subject, FEWEST_MOVE_BYTES, MOVE_BYTES, TABLE_BYTES,
+};
 
 /// What both planners made of a call.
 pub struct Same {
@@ -168,7 +167,8 @@ fn on_smallest_tree(history: History, fails: &mut impl FnMut(&History) -> bool) 
     smallest.unwrap_or(history)
 }
 
-/// Every counts vector of the small trees, with every grant and every release.
+/// Every counts vector of the small trees, with every grant and every release, and for each of these the movers numbered in
+/// every order.
 pub fn every_counts(subject: &mut dyn Subject, amounts: &Amounts, random: &mut Random) -> Result<usize, String> {
     let mut comparisons = 0;
     for height in 0..=amounts.tallest_for_all_counts {
@@ -176,12 +176,60 @@ pub fn every_counts(subject: &mut dyn Subject, amounts: &Amounts, random: &mut R
         for counts in tree.every_fitting_counts() {
             let holders = holders_for(random, &counts);
             for request in every_request(random, tree, &seat(tree, &holders)) {
-                check_one(subject, height, &holders, request)?;
-                comparisons += 1;
+                for numbered in every_numbering(tree, &holders, request) {
+                    check_one(subject, height, &numbered, request)?;
+                    comparisons += 1;
+                }
             }
         }
     }
     Ok(comparisons)
+}
+
+/// The holders as they are, and with those whom a request moves numbered among themselves in every other order. What pages
+/// are granted is moved for as by level, so there the holders stay as they are.
+fn every_numbering(tree: Tree, holders: &[Holder], request: Request) -> Vec<Vec<Holder>> {
+    if matches!(request, Request::GrantPages { .. }) {
+        return vec![holders.to_vec()];
+    }
+    let lent = planner::Lent {
+        height: tree.height(),
+        table: &seat(tree, holders),
+        entries: FEWEST_ENTRIES,
+    };
+    let moves = planner::call(lent, request).moves;
+    let movers: Vec<u16> = moves.iter().map(|step| step.tenant).collect();
+    orders(&movers)
+        .iter()
+        .map(|order| renumbered(holders, &movers, order))
+        .collect()
+}
+
+/// A list in every order, as it is first.
+fn orders(list: &[u16]) -> Vec<Vec<u16>> {
+    if list.is_empty() {
+        return vec![Vec::new()];
+    }
+    let beginning_with = |place: usize| {
+        let mut others = list.to_vec();
+        let first = others.remove(place);
+        let rests = orders(&others).into_iter();
+        rests.map(move |rest| [&[first], &rest[..]].concat())
+    };
+    (0..list.len()).flat_map(beginning_with).collect()
+}
+
+/// The holders with the numbers of some exchanged for others.
+fn renumbered(holders: &[Holder], tenants: &[u16], others: &[u16]) -> Vec<Holder> {
+    let number = |tenant: u16| match tenants.iter().position(|&other| other == tenant) {
+        Some(place) => others[place],
+        None => tenant,
+    };
+    let renumber = |&holder: &Holder| Holder {
+        tenant: number(holder.tenant),
+        ..holder
+    };
+    holders.iter().map(renumber).collect()
 }
 
 /// Runs one call on a reserve that these tenants hold.
@@ -193,7 +241,7 @@ pub(super) fn check_one(
 ) -> Result<(), String> {
     let call = Call {
         request,
-        move_bytes: ENOUGH,
+        move_bytes: FEWEST_MOVE_BYTES,
     };
     let history = History {
         height,
@@ -301,7 +349,7 @@ fn check_damaged(
 ) -> Result<(), String> {
     let call = Call {
         request,
-        move_bytes: ENOUGH,
+        move_bytes: FEWEST_MOVE_BYTES,
     };
     let mut finding =
         |table: &[Node]| same_call(subject, tree.height(), &table_image(table), &call).map(|same| same.reply.answer);
@@ -382,7 +430,7 @@ fn newcomer_gets_the_same(
         let fits = level_wanted(request).is_some_and(|level| 1 << level <= book.room());
         let due = if fits { DONE } else { Refusal::NoRoom.number() };
         for table in tables {
-            let mut moves = pattern(ENOUGH);
+            let mut moves = pattern(FEWEST_MOVE_BYTES);
             let reply = ask(subject, tree.height(), &mut table_image(table), &mut moves, request);
             ensure!(
                 reply.answer == due && reply.moves as usize <= MOST_FOR_GRANT,

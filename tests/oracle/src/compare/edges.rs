@@ -12,7 +12,7 @@ use crate::subject::{Reach, Subject};
 const TABLE_LENGTHS: [usize; 7] = [0, 1, 8190, 8191, 8192, 8193, 8194];
 
 /// The lengths of move lists worth trying.
-const MOVE_LENGTHS: [usize; 5] = [0, 18, 23, 24, 25];
+const MOVE_LENGTHS: [usize; 5] = [0, 24, 31, 32, 33];
 
 /// Every argument at and beside its bounds, in all combinations, on an empty table and on a spoilt one.
 pub fn edges(subject: &mut dyn Subject, _: &Amounts, _: &mut Random) -> Result<usize, String> {

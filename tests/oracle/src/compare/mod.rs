@@ -25,7 +25,7 @@ pub use nodes::same_pages;
 #[derive(Clone, Debug)]
 pub struct Amounts {
     pub seed: u64,
-    /// Up to this height every counts vector is tried with every grant and release.
+    /// Up to this height every counts vector is tried with every grant and release, and every order of the movers' numbers.
     pub tallest_for_all_counts: u32,
     /// Calls in histories that begin with an opening.
     pub calls_in_histories: usize,

@@ -1,14 +1,18 @@
 //! Planners that are right but for one mistake each, to see whether the driver notices.
 
+pub mod lists;
+
+use lists::{ListFault, Tables};
 use oracle::book::level_wanted;
+use oracle::carrying::Change;
 use oracle::definitions::{is_free, is_legal, is_under, Counts, Node, Tree};
 use oracle::journal::{Reading, Record, LONGEST};
 use oracle::page_map::MAP_BYTES;
-use oracle::planner::{Move, Request};
+use oracle::planner::Request;
 use oracle::refusal::{Refusal, DONE};
 use oracle::subject::{
-    ask, moves_from, put_moves, table_from, table_image, Count, Oracle, Pages, Reach, Reply, Subject, MOVE_BYTES,
-    TABLE_BYTES,
+    ask, put_moves, table_from, table_image, Count, Oracle, Pages, Reach, Reply, Subject, FEWEST_MOVE_BYTES,
+    MOVE_BYTES, TABLE_BYTES,
 };
 
 /// The one mistake.
@@ -27,12 +31,13 @@ pub enum Fault {
     DoneWithTheTableUntouched,
     // What is reported.
     MoveCountInvented,
-    MovesByTenant,
-    MovesByOldNodeAcrossLevels,
+    StagedInTheHighByte,
     RestOfTheListCleared,
     RefusalClearsTheList,
     RefusalReportsANode,
     ReleaseReportsNoNode,
+    // Who is staged, and who goes before whom.
+    List(ListFault),
     // Who is turned down, and why.
     NoRoomToEveryone,
     NoRoomForTheLastPage,
@@ -82,6 +87,7 @@ pub enum Fault {
     RefusedCallsLeftOut,
     ZeroForNoNode,
     NothingBeforeAnEarlyEnd,
+    StagedListedAsDirect,
 }
 
 impl Fault {
@@ -97,10 +103,9 @@ impl Fault {
         Fault::NodeOneForEveryone,
         Fault::DoneWithTheTableUntouched,
     ];
-    pub const REPORTS: [Fault; 7] = [
+    pub const REPORTS: [Fault; 6] = [
         Fault::MoveCountInvented,
-        Fault::MovesByTenant,
-        Fault::MovesByOldNodeAcrossLevels,
+        Fault::StagedInTheHighByte,
         Fault::RestOfTheListCleared,
         Fault::RefusalClearsTheList,
         Fault::RefusalReportsANode,
@@ -155,11 +160,12 @@ impl Fault {
         Fault::BytesFarBehindCleared,
         Fault::OneOffsetMisread,
     ];
-    pub const LISTINGS: [Fault; 4] = [
+    pub const LISTINGS: [Fault; 5] = [
         Fault::LineForTheRefusedOpening,
         Fault::RefusedCallsLeftOut,
         Fault::ZeroForNoNode,
         Fault::NothingBeforeAnEarlyEnd,
+        Fault::StagedListedAsDirect,
     ];
 }
 
@@ -186,21 +192,18 @@ impl Wrong<'_> {
         self.request.tenant() as usize
     }
 
-    /// Makes a table the outcome: writes it, and the differences as moves in the right order.
+    /// Makes a table the outcome: writes it, and the right list of moves to it if there can be one.
     fn commit(&self, after: &[Node], table: &mut [u8], moves: &mut [u8]) -> Reply {
-        let mut differences: Vec<Move> = (0..)
-            .zip(self.before.iter().zip(after))
-            .filter(|&(tenant, (old, new))| old != new && usize::from(tenant) != self.tenant())
-            .map(|(tenant, (&old, &new))| Move { tenant, old, new })
-            .collect();
-        differences.sort_by_key(|step| (self.tree.level(step.old), step.old));
+        let list = Change::between(self.tree, self.before, after)
+            .plan()
+            .unwrap_or_default();
         table.copy_from_slice(&table_image(after));
-        put_moves(&differences, moves);
+        put_moves(&list, moves);
         let own = [self.before, after].map(|table| table[self.tenant()]);
         Reply {
             answer: DONE,
             node: own[0].max(own[1]).into(),
-            moves: differences.len() as u32,
+            moves: list.len() as u32,
         }
     }
 
@@ -328,7 +331,7 @@ impl Faulty {
     /// Mistakes in the arguments and in the order of the checks.
     fn wrong_before(&self, height: u32, table: &mut [u8], moves: &mut [u8], request: Request) -> Option<Reply> {
         let reserve_is_fine = height <= 12 && table.len() == TABLE_BYTES;
-        let list_is_fine = moves.len() >= 24;
+        let list_is_fine = moves.len() >= FEWEST_MOVE_BYTES;
         let tenant = request.tenant();
         let reply = match (self.0, request) {
             (Fault::TenantBeforeTheList, _) if reserve_is_fine && tenant > 4095 => refused(Refusal::Tenant),
@@ -469,8 +472,20 @@ impl Faulty {
                 moves: (reply.moves + 1) % 4,
                 ..reply
             },
-            Fault::MovesByTenant => reordered(moves, reply, |step| u32::from(step.tenant)),
-            Fault::MovesByOldNodeAcrossLevels => reordered(moves, reply, |step| u32::from(step.old)),
+            Fault::StagedInTheHighByte => {
+                let entries = moves.chunks_exact_mut(MOVE_BYTES).take(reply.moves as usize);
+                entries.for_each(|entry| entry[6..].reverse());
+                reply
+            }
+            Fault::List(fault) => {
+                let tables = Tables {
+                    tree: wrong.tree,
+                    before: wrong.before,
+                    after: &after,
+                };
+                put_moves(&fault.list(tables), moves);
+                reply
+            }
             Fault::RestOfTheListCleared => {
                 moves[reply.moves as usize * MOVE_BYTES..].fill(0);
                 reply
@@ -492,14 +507,6 @@ impl Faulty {
         }
         reply
     }
-}
-
-/// The moves written again in another order.
-fn reordered(moves: &mut [u8], reply: Reply, order: impl Fn(&Move) -> u32) -> Reply {
-    let mut steps = moves_from(moves, reply.moves);
-    steps.sort_by_key(order);
-    put_moves(&steps, moves);
-    reply
 }
 
 impl Subject for Faulty {
@@ -625,6 +632,7 @@ impl Subject for Faulty {
             Fault::NothingBeforeAnEarlyEnd if honest.contains('!') => {
                 lines.filter(|line| line.starts_with('!')).collect()
             }
+            Fault::StagedListedAsDirect => honest.replace('=', ">"),
             _ => honest,
         };
         wrong.into_bytes()

@@ -1,0 +1,139 @@
+//! Lists that can be carried out: on all small reserves, and with movers that are made up.
+
+mod made_up;
+mod small;
+
+use std::collections::BTreeMap;
+
+use made_up::MadeUp;
+use oracle::carrying::{Change, Move};
+use oracle::definitions::{Node, Tree};
+use oracle::generate::{holders_for, seat};
+use oracle::planner::{self, Lent, Request, FEWEST_ENTRIES, TENANTS};
+use oracle::random::Random;
+use oracle::refusal::DONE;
+use oracle::runtime::{carry_out, staged_come_last};
+use small::trees_with_counts;
+
+/// Every grant and release on a table.
+fn requests(table: &[Node], tree: Tree) -> Vec<Request> {
+    let (holders, others): (Vec<u32>, Vec<u32>) = (0..TENANTS as u32).partition(|&tenant| table[tenant as usize] != 0);
+    let releases = holders.into_iter().map(|tenant| Request::Release { tenant });
+    let grants = tree.levels().map(|level| Request::GrantLevel {
+        tenant: others[0],
+        level,
+    });
+    releases.chain(grants).collect()
+}
+
+/// The change of every grant and release that is carried out on a tree up to height 5.
+fn every_change(mut each: impl FnMut(Request, &Change)) {
+    let mut random = Random::new(31);
+    for (tree, counts) in trees_with_counts(0..=5) {
+        let table = seat(tree, &holders_for(&mut random, &counts));
+        for request in requests(&table, tree) {
+            let lent = Lent {
+                height: tree.height(),
+                table: &table,
+                entries: FEWEST_ENTRIES,
+            };
+            let outcome = planner::call(lent, request);
+            if outcome.answer == DONE {
+                each(request, &Change::between(tree, &table, &outcome.table));
+            }
+        }
+    }
+}
+
+fn staged(list: &[Move]) -> usize {
+    list.iter().filter(|step| step.staged).count()
+}
+
+/// How many lists there are that nothing but what is compared by a key can tell from the best.
+fn as_good_as_the_best<K: Ord>(change: &Change, key: impl Fn((usize, usize, Vec<u16>)) -> K) -> usize {
+    let keys: Vec<K> = change.lists().iter().map(|list| key(change.cost(list))).collect();
+    let best = keys.iter().min();
+    keys.iter().filter(|&key| Some(key) == best).count()
+}
+
+/// How many calls stage how many, by the number of movers.
+#[test]
+fn small_reserves_stage_one_tenant_or_none() {
+    let mut grants: BTreeMap<(usize, usize), u32> = BTreeMap::new();
+    let mut releases = grants.clone();
+    every_change(|request, change| {
+        let list = change.plan().expect("a list");
+        let calls = match request {
+            Request::Release { .. } => &mut releases,
+            _ => &mut grants,
+        };
+        *calls.entry((list.len(), staged(&list))).or_default() += 1;
+    });
+    let of_grants = [((0, 0), 2753), ((1, 0), 983), ((2, 1), 1876), ((3, 1), 32)];
+    let of_releases = [
+        ((0, 0), 2753),
+        ((1, 0), 8756),
+        ((2, 0), 1776),
+        ((2, 1), 3018),
+        ((3, 1), 7584),
+        ((4, 1), 64),
+    ];
+    assert_eq!(grants, BTreeMap::from(of_grants));
+    assert_eq!(releases, BTreeMap::from(of_releases));
+}
+
+/// On a small reserve the pages alone decide whom to stage.
+#[test]
+fn no_two_sets_of_a_small_reserve_have_the_fewest_pages() {
+    every_change(|request, change| {
+        assert_eq!(as_good_as_the_best(change, |(pages, _, _)| pages), 1, "{request:?}");
+    });
+}
+
+/// What made-up movers came to.
+#[derive(Default)]
+struct Seldom {
+    most_movers: usize,
+    most_staged: usize,
+    /// So many times more than one set had the fewest pages, and so many times the fewest tenants of these too.
+    equal_pages: u32,
+    equal_tenants: u32,
+}
+
+impl Seldom {
+    fn note(&mut self, change: &Change, list: &[Move]) {
+        self.most_movers = self.most_movers.max(list.len());
+        self.most_staged = self.most_staged.max(staged(list));
+        self.equal_pages += u32::from(as_good_as_the_best(change, |(pages, _, _)| pages) > 1);
+        self.equal_tenants += u32::from(as_good_as_the_best(change, |(pages, tenants, _)| (pages, tenants)) > 1);
+    }
+}
+
+/// Movers that are made up stage several, and leave it to the tenants' number and numbers to decide.
+#[test]
+fn lists_of_made_up_movers_can_be_carried_out() {
+    let mut random = Random::new(32);
+    let mut seldom = Seldom::default();
+    for round in 0..20_000 {
+        let MadeUp { tree, before, after } = MadeUp::draw(&mut random, Tree::new(2 + round % 4));
+        let change = Change::between(tree, &before, &after);
+        let list = change.plan().expect("a list for places that are apart");
+        let done = carry_out(tree, &before, &after, &list);
+        assert_eq!(done, Ok(()), "{before:?} {after:?} {list:?}");
+        assert!(staged_come_last(&list), "{list:?}");
+        seldom.note(&change, &list);
+    }
+    println!(
+        "{} {} {} {}",
+        seldom.most_movers, seldom.most_staged, seldom.equal_pages, seldom.equal_tenants
+    );
+}
+
+/// Places that are not apart can be reached by no list.
+#[test]
+fn nobody_is_set_down_on_somebody_else() {
+    let tree = Tree::new(2);
+    assert_eq!(Change::between(tree, &[2, 6], &[3, 6]).plan(), None);
+    assert_eq!(Change::between(tree, &[2, 6], &[5, 5]).plan(), None);
+    assert_eq!(Change::between(tree, &[2, 0], &[3, 6]).plan(), None);
+}
