@@ -49,11 +49,11 @@ fn staged(list: &[Move]) -> usize {
     list.iter().filter(|step| step.staged).count()
 }
 
-/// How many lists there are that nothing but what is compared by a key can tell from the best.
-fn as_good_as_the_best<K: Ord>(change: &Change, key: impl Fn((usize, usize, Vec<u16>)) -> K) -> usize {
-    let keys: Vec<K> = change.lists().iter().map(|list| key(change.cost(list))).collect();
-    let best = keys.iter().min();
-    keys.iter().filter(|&key| Some(key) == best).count()
+/// How many lists are as low as the best by a part of their cost.
+fn as_low_as_the_best<K: Ord>(change: &Change, part: impl Fn((usize, usize, Vec<u16>)) -> K) -> usize {
+    let parts: Vec<K> = change.lists().iter().map(|list| part(change.cost(list))).collect();
+    let best = parts.iter().min();
+    parts.iter().filter(|&part| Some(part) == best).count()
 }
 
 /// How many calls stage how many, by the number of movers.
@@ -82,34 +82,37 @@ fn small_reserves_stage_one_tenant_or_none() {
     assert_eq!(releases, BTreeMap::from(of_releases));
 }
 
-/// On a small reserve the pages alone decide whom to stage.
+/// On a small reserve the pages alone decide whom to stage, however the tenants are numbered.
 #[test]
 fn no_two_sets_of_a_small_reserve_have_the_fewest_pages() {
+    let mut calls = 0;
     every_change(|request, change| {
-        assert_eq!(as_good_as_the_best(change, |(pages, _, _)| pages), 1, "{request:?}");
+        assert_eq!(as_low_as_the_best(change, |(pages, _, _)| pages), 1, "{request:?}");
+        calls += 1;
     });
+    assert_eq!(calls, 29_595);
 }
 
-/// What made-up movers came to.
-#[derive(Default)]
+/// What movers that are made up come to.
+#[derive(Debug, Default, PartialEq, Eq)]
 struct Seldom {
     most_movers: usize,
     most_staged: usize,
-    /// So many times more than one set had the fewest pages, and so many times the fewest tenants of these too.
-    equal_pages: u32,
-    equal_tenants: u32,
+    /// How often more than one set has the fewest pages, and how often more than one of these the fewest tenants.
+    equal_pages: usize,
+    equal_tenants: usize,
 }
 
 impl Seldom {
     fn note(&mut self, change: &Change, list: &[Move]) {
         self.most_movers = self.most_movers.max(list.len());
         self.most_staged = self.most_staged.max(staged(list));
-        self.equal_pages += u32::from(as_good_as_the_best(change, |(pages, _, _)| pages) > 1);
-        self.equal_tenants += u32::from(as_good_as_the_best(change, |(pages, tenants, _)| (pages, tenants)) > 1);
+        self.equal_pages += usize::from(as_low_as_the_best(change, |(pages, _, _)| pages) > 1);
+        self.equal_tenants += usize::from(as_low_as_the_best(change, |(pages, tenants, _)| (pages, tenants)) > 1);
     }
 }
 
-/// Movers that are made up stage several, and leave it to the tenants' number and numbers to decide.
+/// Movers that are made up are staged by twos and more, and often the pages leave it to the tenants to decide.
 #[test]
 fn lists_of_made_up_movers_can_be_carried_out() {
     let mut random = Random::new(32);
@@ -123,10 +126,13 @@ fn lists_of_made_up_movers_can_be_carried_out() {
         assert!(staged_come_last(&list), "{list:?}");
         seldom.note(&change, &list);
     }
-    println!(
-        "{} {} {} {}",
-        seldom.most_movers, seldom.most_staged, seldom.equal_pages, seldom.equal_tenants
-    );
+    let expected = Seldom {
+        most_movers: 7,
+        most_staged: 6,
+        equal_pages: 1_166,
+        equal_tenants: 996,
+    };
+    assert_eq!(seldom, expected);
 }
 
 /// Places that are not apart can be reached by no list.
@@ -134,6 +140,6 @@ fn lists_of_made_up_movers_can_be_carried_out() {
 fn nobody_is_set_down_on_somebody_else() {
     let tree = Tree::new(2);
     assert_eq!(Change::between(tree, &[2, 6], &[3, 6]).plan(), None);
-    assert_eq!(Change::between(tree, &[2, 6], &[5, 5]).plan(), None);
+    assert_eq!(Change::between(tree, &[4, 6], &[5, 5]).plan(), None);
     assert_eq!(Change::between(tree, &[2, 0], &[3, 6]).plan(), None);
 }

@@ -43,12 +43,14 @@ fn checked_call(book: &mut Book, table: &[Node], call: &Call) -> Outcome {
     outcome
 }
 
-/// What turned up in some histories: how often each number was answered, and the most moves of each kind of call.
+/// What turned up in some histories: how often each number was answered, the most moves of each kind of call, and the most
+/// of one call that were staged.
 #[derive(Default)]
 struct Seldom {
     answers: BTreeMap<u32, usize>,
     most_for_grant: usize,
     most_for_release: usize,
+    most_staged: usize,
     full: usize,
 }
 
@@ -60,6 +62,8 @@ impl Seldom {
             None => &mut self.most_for_release,
         };
         *most = outcome.moves.len().max(*most);
+        let staged = outcome.moves.iter().filter(|step| step.staged).count();
+        self.most_staged = staged.max(self.most_staged);
         self.full += usize::from(book.room() == 0);
     }
 }
@@ -136,6 +140,7 @@ fn histories_reach_every_answer_and_the_most_moves() {
     assert!(seldom.full * 20 > total, "full {} times in {total}", seldom.full);
     assert_eq!(seldom.most_for_grant, MOST_FOR_GRANT);
     assert_eq!(seldom.most_for_release, MOST_FOR_RELEASE);
+    assert_eq!(seldom.most_staged, 1);
 }
 
 /// Every counts vector up to height 5 with every grant and every release; the audit has the bounds on the moves.

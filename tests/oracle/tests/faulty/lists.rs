@@ -108,11 +108,11 @@ impl ListFault {
                 |_| true,
             ),
             ListFault::ReleasedBlockInTheWay => {
-                let released = moving(tables.before, tables.after);
+                let released = only_in(tables.before, tables.after);
                 tables.by_waits(waits, |step| !released.is_some_and(|node| meet(node, step.new)))
             }
             ListFault::NewcomerBeforeTheOthers => {
-                let newcomer = moving(tables.after, tables.before);
+                let newcomer = only_in(tables.after, tables.before);
                 tables.by_waits(waits, |step| !newcomer.is_some_and(|node| meet(node, step.old)))
             }
             ListFault::DirectByLevel => {
@@ -206,13 +206,11 @@ fn waits(one: &Move, other: &Move) -> bool {
     meet(one.new, other.old)
 }
 
-/// The node of somebody who is in the first table and not in the second.
-fn moving(here: &[Node], not_there: &[Node]) -> Option<Node> {
-    let mut gone = here
-        .iter()
-        .zip(not_there)
-        .filter(|&(&node, &other)| node != 0 && other == 0);
-    gone.next().map(|(&node, _)| node)
+/// The node of whoever is in one table and not in another.
+fn only_in(one: &[Node], other: &[Node]) -> Option<Node> {
+    let mut entries = one.iter().zip(other);
+    let (&node, _) = entries.find(|&(&node, &there)| node != 0 && there == 0)?;
+    Some(node)
 }
 
 /// The right list with all movers staged, or none.
