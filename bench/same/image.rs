@@ -7,7 +7,7 @@ use crate::TENANTS;
 pub const TABLE_BYTES: usize = 2 * TENANTS;
 
 /// The bytes of a move.
-pub const MOVE_BYTES: usize = 6;
+pub const MOVE_BYTES: usize = 8;
 
 pub fn decode(image: &[u8], table: &mut [u16; TENANTS]) {
     for (node, bytes) in table.iter_mut().zip(image.as_chunks().0) {
@@ -27,6 +27,7 @@ pub fn put_moves(plan: &Plan, list: &mut [u8]) {
         let [t0, t1] = step.tenant.to_le_bytes();
         let [f0, f1] = step.from.to_le_bytes();
         let [n0, n1] = step.to.to_le_bytes();
-        *bytes = [t0, t1, f0, f1, n0, n1];
+        let [s0, s1] = step.staged.to_le_bytes();
+        *bytes = [t0, t1, f0, f1, n0, n1, s0, s1];
     }
 }

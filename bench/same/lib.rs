@@ -6,6 +6,7 @@
 #![forbid(unsafe_code)]
 
 mod calls;
+mod carrying;
 pub mod door;
 mod image;
 mod layout;

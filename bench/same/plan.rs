@@ -1,18 +1,21 @@
 //! Which blocks move when one layout takes the place of another, from the ends of the runs, the lone blocks and the
 //! hole.
 
+use crate::carrying::arranged;
 use crate::layout::{Layout, Row};
 use crate::survey::Owners;
 use crate::NONE;
 
 /// The most moves of a call.
-const MOST: usize = 4;
+pub const MOST: usize = 4;
 
 #[derive(Clone, Copy, Default)]
 pub struct Move {
     pub tenant: u16,
     pub from: u16,
     pub to: u16,
+    /// 1 if the tenant is lifted out before the others move, else 0.
+    pub staged: u16,
 }
 
 /// The moves of a call, in order.
@@ -27,7 +30,7 @@ impl Plan {
         &self.moves[..self.number]
     }
 
-    fn push(&mut self, step: Move) {
+    pub fn push(&mut self, step: Move) {
         self.moves[self.number] = step;
         self.number += 1;
     }
@@ -89,7 +92,7 @@ pub fn plan_moves(
             node = base + spare;
         }
     }
-    (plan, node)
+    (arranged(&mut plan.moves[..plan.number]), node)
 }
 
 /// The index of a node on the level whose first node is `base`, or [`NONE`] for a node of another level.
@@ -112,6 +115,7 @@ fn shift_level(plan: &mut Plan, base: u16, old: &Places, new: &Places, owners: &
             tenant: owners[usize::from(from)] - 1,
             from,
             to: base + place,
+            staged: 0,
         });
         mover = least(old, new, mover + 1);
         place = least(new, old, place + 1);

@@ -1,8 +1,7 @@
 //! A call with the bytes that it is lent, and how it is put to a planner.
 
 use oracle::page_map::MAP_BYTES;
-use oracle::planner::FEWEST_ENTRIES;
-use oracle::subject::{MOVE_BYTES, TABLE_BYTES};
+use oracle::subject::{FEWEST_MOVE_BYTES, TABLE_BYTES};
 use same::door::Outcome;
 
 use crate::contestant::Contestant;
@@ -24,7 +23,7 @@ pub enum Ask {
 #[derive(Clone, PartialEq, Eq)]
 pub struct Lent {
     pub table: Table,
-    pub moves: [u8; FEWEST_ENTRIES * MOVE_BYTES],
+    pub moves: [u8; FEWEST_MOVE_BYTES],
     pub map: [u8; MAP_BYTES],
 }
 
@@ -41,7 +40,7 @@ impl Lent {
     pub fn new(table: Table) -> Lent {
         Lent {
             table,
-            moves: [0xA5; FEWEST_ENTRIES * MOVE_BYTES],
+            moves: [0xA5; FEWEST_MOVE_BYTES],
             map: [0xA5; MAP_BYTES],
         }
     }

@@ -11,42 +11,55 @@ struct reserve_outcome __real_reserve_release(uint16_t height, uint8_t *table, s
 uint16_t __real_reserve_draw(uint16_t height, const uint8_t *table, size_t table_length, uint8_t *map, size_t map_length);
 struct reserve_reading __real_reserve_read(const uint8_t *journal, size_t journal_length, size_t offset);
 
-/* 1: a release that moves four tells the last one's old node wrong. */
+/* Exchanges a move with the next one of its list. */
+static void exchange(uint8_t *move) {
+    for (size_t byte = 0; byte < RESERVE_MOVE_BYTES; byte++) {
+        uint8_t own = move[byte];
+        move[byte] = move[RESERVE_MOVE_BYTES + byte];
+        move[RESERVE_MOVE_BYTES + byte] = own;
+    }
+}
+
+/* A release that moves four 1: tells the last one's old node wrong, 2: does not tell it as staged, 3: tells the first two the
+ * other way round. */
 struct reserve_outcome __wrap_reserve_release(uint16_t height, uint8_t *table, size_t table_length, uint8_t *moves,
                                               size_t moves_length, uint16_t tenant) {
     struct reserve_outcome got = __real_reserve_release(height, table, table_length, moves, moves_length, tenant);
-    if (MISTAKE == 1 && got.moves == 4) moves[3 * RESERVE_MOVE_BYTES + 2] ^= 1;
+    if (got.moves != 4) return got;
+    if (MISTAKE == 1) moves[3 * RESERVE_MOVE_BYTES + 2] ^= 1;
+    if (MISTAKE == 2) moves[3 * RESERVE_MOVE_BYTES + 6] = 0;
+    if (MISTAKE == 3) exchange(moves);
     return got;
 }
 
-/* 2: a grant by level that moves three writes one byte past the last move. */
+/* 4: a grant by level that moves three writes one byte past the last move. */
 struct reserve_outcome __wrap_reserve_grant_level(uint16_t height, uint8_t *table, size_t table_length, uint8_t *moves,
                                                   size_t moves_length, uint16_t tenant, uint16_t level) {
     struct reserve_outcome got = __real_reserve_grant_level(height, table, table_length, moves, moves_length, tenant, level);
-    if (MISTAKE == 2 && got.moves == 3) moves[3 * RESERVE_MOVE_BYTES] ^= 1;
+    if (MISTAKE == 4 && got.moves == 3) moves[3 * RESERVE_MOVE_BYTES] ^= 1;
     return got;
 }
 
-/* 3: a spoilt table is refused as "no room" where one page is asked of the tallest reserve. */
+/* 5: a spoilt table is refused as "no room" where one page is asked of the tallest reserve. */
 struct reserve_outcome __wrap_reserve_grant_pages(uint16_t height, uint8_t *table, size_t table_length, uint8_t *moves,
                                                   size_t moves_length, uint16_t tenant, uint16_t pages) {
     struct reserve_outcome got = __real_reserve_grant_pages(height, table, table_length, moves, moves_length, tenant, pages);
-    if (MISTAKE == 3 && got.answer == RESERVE_REFUSED_NOT_IN_ORDER && height == RESERVE_MAX_HEIGHT && pages == 1)
+    if (MISTAKE == 5 && got.answer == RESERVE_REFUSED_NOT_IN_ORDER && height == RESERVE_MAX_HEIGHT && pages == 1)
         got.answer = RESERVE_REFUSED_NO_ROOM;
     return got;
 }
 
-/* 4: the byte behind a map is written where the whole of a reserve of height 7 is held. */
+/* 6: the byte behind a map is written where the whole of a reserve of height 7 is held. */
 uint16_t __wrap_reserve_draw(uint16_t height, const uint8_t *table, size_t table_length, uint8_t *map, size_t map_length) {
     uint16_t answer = __real_reserve_draw(height, table, table_length, map, map_length);
-    if (MISTAKE == 4 && answer == RESERVE_DONE && height == 7 && map[15] == 255) map[RESERVE_MAP_BYTES] ^= 1;
+    if (MISTAKE == 6 && answer == RESERVE_DONE && height == 7 && map[15] == 255) map[RESERVE_MAP_BYTES] ^= 1;
     return answer;
 }
 
-/* 5: a grant by pages that is cut off is reported one byte too far on, unless near the front. */
+/* 7: a grant by pages that is cut off is reported one byte too far on, unless near the front. */
 struct reserve_reading __wrap_reserve_read(const uint8_t *journal, size_t journal_length, size_t offset) {
     struct reserve_reading got = __real_reserve_read(journal, journal_length, offset);
-    if (MISTAKE == 5 && got.answer == RESERVE_REFUSED_CUT_OFF && journal[offset] == RESERVE_KIND_GRANT_PAGES && offset > 8)
+    if (MISTAKE == 7 && got.answer == RESERVE_REFUSED_CUT_OFF && journal[offset] == RESERVE_KIND_GRANT_PAGES && offset > 8)
         got.offset = offset + 1;
     return got;
 }

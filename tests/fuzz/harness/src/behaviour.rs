@@ -1,8 +1,8 @@
 //! What a planner did, as counters that the fuzzer reads beside those of the planner's code.
 //!
-//! A counter stands for a kind of call with its height and answer, or for the levels on which an accepted call moved
-//! somebody. An input that raises a new one is kept, so the search also goes for behaviour that runs no new code: a
-//! move on one more level, a release that moves four.
+//! A counter stands for a kind of call with its height and answer, or for the list of an accepted call: the level of each
+//! mover, in order, and whether it is staged. An input that raises a new one is kept, so the search also goes for
+//! behaviour that runs no new code: a move on one more level, a release that moves four, two movers in another order.
 
 use std::hash::{DefaultHasher, Hash, Hasher};
 use std::ptr::addr_of_mut;
@@ -45,12 +45,12 @@ fn note(kind: Kind, height: u32, moves: &[u8], reply: Reply) -> Reply {
         let tree = Tree::new(height);
         let in_tree = |node: u16| (1..=tree.last_node()).contains(&node);
         let moves = moves_from(moves, reply.moves);
-        let levels: Vec<u32> = moves
+        let list: Vec<(u32, bool)> = moves
             .iter()
             .filter(|step| in_tree(step.old))
-            .map(|step| tree.level(step.old))
+            .map(|step| (tree.level(step.old), step.staged))
             .collect();
-        count((matches!(kind, Kind::Release), levels));
+        count((matches!(kind, Kind::Release), list));
     }
     reply
 }

@@ -2,11 +2,11 @@
 
 use oracle::definitions::{Tree, TALLEST};
 use oracle::generate::{Call, Holder};
-use oracle::planner::{Request, FEWEST_ENTRIES, TENANTS};
-use oracle::subject::MOVE_BYTES;
+use oracle::planner::{Request, TENANTS};
+use oracle::subject::FEWEST_MOVE_BYTES;
 
 /// What is lent now and then instead of a list of moves that just suffices.
-const LIST_LENGTHS: [usize; 16] = [0, 1, 5, 6, 12, 18, 22, 23, 25, 26, 29, 30, 31, 36, 48, 64];
+const LIST_LENGTHS: [usize; 16] = [0, 1, 7, 8, 16, 24, 30, 31, 33, 34, 39, 40, 41, 48, 56, 64];
 
 /// Tenants about the largest number that there is, and about the ends of 16 bits.
 const TENANTS_AT_THE_EDGE: [u32; 8] = [4094, 4095, 4096, 4097, 0x1fff, 0x7fff, 0x8000, 0xffff];
@@ -142,7 +142,7 @@ impl<'a> Tape<'a> {
             _ => Request::Release { tenant },
         };
         let move_bytes = match usize::from(byte / 4).checked_sub(48) {
-            None => FEWEST_ENTRIES * MOVE_BYTES,
+            None => FEWEST_MOVE_BYTES,
             Some(place) => LIST_LENGTHS[place],
         };
         Call { request, move_bytes }
