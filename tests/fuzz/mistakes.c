@@ -11,6 +11,9 @@ struct reserve_outcome __real_reserve_release(uint16_t height, uint8_t *table, s
 uint16_t __real_reserve_draw(uint16_t height, const uint8_t *table, size_t table_length, uint8_t *map, size_t map_length);
 struct reserve_reading __real_reserve_read(const uint8_t *journal, size_t journal_length, size_t offset);
 
+/* A number of two bytes. */
+static int number(const uint8_t *bytes) { return bytes[0] | bytes[1] << 8; }
+
 /* Exchanges a move with the next one of its list. */
 static void exchange(uint8_t *move) {
     for (size_t byte = 0; byte < RESERVE_MOVE_BYTES; byte++) {
@@ -20,15 +23,16 @@ static void exchange(uint8_t *move) {
     }
 }
 
-/* A release that moves four 1: tells the last one's old node wrong, 2: does not tell it as staged, 3: tells the first two the
- * other way round. */
+/* 1: a release that moves four tells the last one's old node wrong.
+ * 2: a release that moves three does not tell the last one as staged if it has 64 pages or more.
+ * 3: a release that moves four tells the first two by tenant number. */
 struct reserve_outcome __wrap_reserve_release(uint16_t height, uint8_t *table, size_t table_length, uint8_t *moves,
                                               size_t moves_length, uint16_t tenant) {
     struct reserve_outcome got = __real_reserve_release(height, table, table_length, moves, moves_length, tenant);
-    if (got.moves != 4) return got;
-    if (MISTAKE == 1) moves[3 * RESERVE_MOVE_BYTES + 2] ^= 1;
-    if (MISTAKE == 2) moves[3 * RESERVE_MOVE_BYTES + 6] = 0;
-    if (MISTAKE == 3) exchange(moves);
+    uint8_t *third = moves + 2 * RESERVE_MOVE_BYTES, *fourth = third + RESERVE_MOVE_BYTES;
+    if (MISTAKE == 1 && got.moves == 4) fourth[2] ^= 1;
+    if (MISTAKE == 2 && got.moves == 3 && number(third + 2) < (2 << height) / 64) third[6] = 0;
+    if (MISTAKE == 3 && got.moves == 4 && number(moves) > number(moves + RESERVE_MOVE_BYTES)) exchange(moves);
     return got;
 }
 
