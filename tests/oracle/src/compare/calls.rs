@@ -4,12 +4,13 @@ use std::fmt;
 
 use super::lent::{pattern, Lent};
 use super::maps::same_map;
+use super::numbering::every_numbering;
 use super::Amounts;
 use crate::audit::{audit, is_in_order, Seen, MOST_FOR_GRANT};
 use crate::book::{level_wanted, occupied, Book};
 use crate::definitions::{Node, Tree, TALLEST};
 use crate::generate::{any_fill, history, history_on_full, holders_for, seat, steer, Call, Damage, History, Holder};
-use crate::planner::{self, Request, FEWEST_ENTRIES, TENANTS};
+use crate::planner::{Request, TENANTS};
 use crate::random::Random;
 use crate::refusal::{Refusal, DONE};
 use crate::shrink::shorten;
@@ -184,52 +185,6 @@ pub fn every_counts(subject: &mut dyn Subject, amounts: &Amounts, random: &mut R
         }
     }
     Ok(comparisons)
-}
-
-/// The holders as they are, and with those whom a request moves numbered among themselves in every other order. What pages
-/// are granted is moved for as by level, so there the holders stay as they are.
-fn every_numbering(tree: Tree, holders: &[Holder], request: Request) -> Vec<Vec<Holder>> {
-    if matches!(request, Request::GrantPages { .. }) {
-        return vec![holders.to_vec()];
-    }
-    let lent = planner::Lent {
-        height: tree.height(),
-        table: &seat(tree, holders),
-        entries: FEWEST_ENTRIES,
-    };
-    let moves = planner::call(lent, request).moves;
-    let movers: Vec<u16> = moves.iter().map(|step| step.tenant).collect();
-    orders(&movers)
-        .iter()
-        .map(|order| renumbered(holders, &movers, order))
-        .collect()
-}
-
-/// A list in every order, as it is first.
-fn orders(list: &[u16]) -> Vec<Vec<u16>> {
-    if list.is_empty() {
-        return vec![Vec::new()];
-    }
-    let beginning_with = |place: usize| {
-        let mut others = list.to_vec();
-        let first = others.remove(place);
-        let rests = orders(&others).into_iter();
-        rests.map(move |rest| [&[first], &rest[..]].concat())
-    };
-    (0..list.len()).flat_map(beginning_with).collect()
-}
-
-/// The holders with the numbers of some exchanged for others.
-fn renumbered(holders: &[Holder], tenants: &[u16], others: &[u16]) -> Vec<Holder> {
-    let number = |tenant: u16| match tenants.iter().position(|&other| other == tenant) {
-        Some(place) => others[place],
-        None => tenant,
-    };
-    let renumber = |&holder: &Holder| Holder {
-        tenant: number(holder.tenant),
-        ..holder
-    };
-    holders.iter().map(renumber).collect()
 }
 
 /// Runs one call on a reserve that these tenants hold.

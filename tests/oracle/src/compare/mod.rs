@@ -9,6 +9,7 @@ mod journals;
 mod lent;
 mod maps;
 mod nodes;
+mod numbering;
 
 use std::error::Error;
 use std::io::{self, Write};

@@ -49,6 +49,7 @@ pub enum Fault {
     PagesBeforeTheTenant,
     LongerTableTaken,
     LongerMoveListRefused,
+    ThreeEntriesTaken,
     TallerTreeTaken,
     OpeningLeavesTheTable,
     OpeningWantsAnOrderlyTable,
@@ -111,7 +112,7 @@ impl Fault {
         Fault::RefusalReportsANode,
         Fault::ReleaseReportsNoNode,
     ];
-    pub const REFUSALS: [Fault; 13] = [
+    pub const REFUSALS: [Fault; 14] = [
         Fault::NoRoomToEveryone,
         Fault::NoRoomForTheLastPage,
         Fault::NoRoomWhereThreeWouldMove,
@@ -122,6 +123,7 @@ impl Fault {
         Fault::PagesBeforeTheTenant,
         Fault::LongerTableTaken,
         Fault::LongerMoveListRefused,
+        Fault::ThreeEntriesTaken,
         Fault::TallerTreeTaken,
         Fault::OpeningLeavesTheTable,
         Fault::OpeningWantsAnOrderlyTable,
@@ -353,6 +355,13 @@ impl Faulty {
             }
             (Fault::LongerMoveListRefused, _) if !moves.len().is_multiple_of(MOVE_BYTES) => {
                 ask(&mut Oracle, height, table, &mut [], request)
+            }
+            (Fault::ThreeEntriesTaken, _) if moves.len() / MOVE_BYTES == 3 => {
+                let mut longer = moves.to_vec();
+                longer.resize(FEWEST_MOVE_BYTES, 0);
+                let reply = ask(&mut Oracle, height, table, &mut longer, request);
+                moves.copy_from_slice(&longer[..moves.len()]);
+                reply
             }
             (Fault::TallerTreeTaken, _) if height == 13 => ask(&mut Oracle, 12, table, moves, request),
             (Fault::HoldingsBeforeTheTable, _) => return self.holdings_first(height, table, moves, request),
