@@ -10,13 +10,32 @@
  *
  * Tenants are numbered 0 to 4095. Each holds at most one block, and a block is one node. Where the blocks lie depends on
  * nothing but how many are held on each level, so a grant or a release may have to move other tenants: a grant at most
- * three, a release at most four. The planner says who moves from where to where. Copying the pages is the caller's work,
- * and has to be done, from the first of the moves to the last, before the next call on the same table. reserve_node_pages
- * says which pages a node covers.
+ * three, a release at most four. The planner says who moves from where to where; copying the pages is the caller's work (THE
+ * MOVES, below). reserve_node_pages says which pages a node covers.
  *
  * A grant names its block by level or by pages. A tenant that names pages gets one more, a guard page right behind them, in
  * case it runs over: p pages, p above 0, get the smallest block of p + 1 or more. 0 pages name no size and get a block of one
  * page, without a guard page. A block that is named by its level has just its 2^level pages.
+ *
+ * THE MOVES
+ *
+ * The new pages of a mover may be pages that another mover has not left yet. Whoever just copies one tenant after the other
+ * from its old pages to its new ones destroys data. So some entries of the list are staged, and the moves of a call are
+ * carried out in three steps, all of them before the next call on the same table:
+ *
+ *   1. Copy the pages of every staged tenant out of the reserve, to room of your own.
+ *   2. Go through the list from its first entry to its last. Copy a tenant that is not staged from its old pages to its new
+ *      ones; copy a staged one from that room to its new pages. The staged ones stand behind all others.
+ *   3. After a grant, write the newcomer's pages now and not before.
+ *
+ * Then every page is free at the moment when it is written. The pages of a released block are free from the start: what is
+ * still wanted of them has to be taken before step 1.
+ *
+ * The room has to hold the pages of all staged entries of the list together. No way to carry out the same moves needs
+ * less. Read from each list how many there are: that no grant and no release stages more than one tenant is what tests have
+ * found and no promise. 2^h pages are enough for every list.
+ *
+ * examples/carry.c does all this with real bytes.
  *
  * WHAT IS LENT
  *
@@ -34,7 +53,8 @@
  * All lengths and offsets count bytes. Numbers of two bytes have the low byte first, whatever the machine's own order:
  *
  *   table   RESERVE_TABLE_BYTES bytes: for each tenant, by number, two bytes with its node, or 0 if it holds nothing
- *   moves   RESERVE_MOVE_BYTES bytes for each move: the tenant, its old node, its new node; two bytes each
+ *   moves   RESERVE_MOVE_BYTES bytes for each move: the tenant, its old node, its new node, and 1 if it is staged, else 0;
+ *           two bytes each
  *   map     RESERVE_MAP_BYTES bytes: page i is bit i mod 8 of byte i / 8, and bit 0 weighs 1; set if a held block covers the page
  *   record  of a journal: one byte of kind and a body (RESERVE_KIND_..., below)
  *
@@ -65,7 +85,8 @@
  *       if (got.answer != RESERVE_DONE) return 1;
  *       for (unsigned i = 0; i < got.moves; i++) {
  *           const uint8_t *m = moves + RESERVE_MOVE_BYTES * i;
- *           printf("tenant %u: node %u to %u\n", m[0] + 256u * m[1], m[2] + 256u * m[3], m[4] + 256u * m[5]);
+ *           const char *how = m[6] + 256u * m[7] == 1 ? "staged" : "direct";
+ *           printf("tenant %u: node %u to %u, %s\n", m[0] + 256u * m[1], m[2] + 256u * m[3], m[4] + 256u * m[5], how);
  *       }
  *       struct reserve_pages has = reserve_node_pages(12, got.node);
  *       printf("tenant 7 has node %u, %u pages from page %u on\n", (unsigned)got.node, (unsigned)has.count, (unsigned)has.first);
@@ -84,8 +105,9 @@ extern "C" {
 
 /* The version of this interface. Whatever changes a layout, a signature, a constant or what a function does with the same
  * arguments raises it: the major number, and the minor one is then 0, if programs have to be changed or compiled again; the
- * minor number if something is only added. 2.0: a grant by pages has a guard page. */
-#define RESERVE_VERSION_MAJOR 2
+ * minor number if something is only added. 2.0: a grant by pages has a guard page. 3.0: a move has a fourth number, and the
+ * moves stand in an order in which they can be carried out. */
+#define RESERVE_VERSION_MAJOR 3
 #define RESERVE_VERSION_MINOR 0
 #define RESERVE_VERSION (1000 * RESERVE_VERSION_MAJOR + RESERVE_VERSION_MINOR)
 
@@ -96,8 +118,8 @@ extern "C" {
 /* The bytes of a table, of one move, of the moves that have to be lent to a grant or a release (at least), of a page map,
  * and of the longest record. */
 #define RESERVE_TABLE_BYTES 8192
-#define RESERVE_MOVE_BYTES 6
-#define RESERVE_MOVES_BYTES 24
+#define RESERVE_MOVE_BYTES 8
+#define RESERVE_MOVES_BYTES 32
 #define RESERVE_MAP_BYTES 512
 #define RESERVE_RECORD_BYTES 5
 
@@ -109,7 +131,7 @@ enum reserve_answer {
     RESERVE_DONE = 0,
     RESERVE_REFUSED_HEIGHT = 1,        /* the height is above 12 */
     RESERVE_REFUSED_TABLE_LENGTH = 2,  /* the table is not of 8192 bytes */
-    RESERVE_REFUSED_MOVES = 3,         /* fewer than 24 bytes are lent for the moves */
+    RESERVE_REFUSED_MOVES = 3,         /* fewer than 32 bytes are lent for the moves */
     RESERVE_REFUSED_TENANT = 4,        /* the tenant is above 4095 */
     RESERVE_REFUSED_LEVEL = 5,         /* the level is above the height */
     RESERVE_REFUSED_PAGES = 6,         /* the pages with their guard page are more than the reserve has: 2^h or more are named */

@@ -1,0 +1,99 @@
+/*
+ * Carries out the planner's moves on real bytes: four pages, three images, and what a grant and a release make of them.
+ *
+ *   cc -Iinclude examples/carry.c target/staticlib/libreserve.a -o carry && ./carry
+ *
+ * work_list is what a runtime needs; the rest is there to use it.
+ */
+#include <stdio.h>
+#include <stdlib.h>
+#include <string.h>
+
+#include "reserve.h"
+
+enum { HEIGHT = 2, PAGES = 1 << HEIGHT, PAGE_BYTES = 4 };
+
+static uint8_t table[RESERVE_TABLE_BYTES];
+static uint8_t moves[RESERVE_MOVES_BYTES];
+
+/* The pages themselves, and room for staged tenants: as many pages as the reserve has are enough for every list. */
+static char reserve[PAGES * PAGE_BYTES];
+static char room[PAGES * PAGE_BYTES];
+
+struct move {
+    unsigned tenant, from, to, staged;
+};
+
+static unsigned number(const uint8_t *bytes) { return bytes[0] + 256u * bytes[1]; }
+
+static struct move move_at(unsigned i) {
+    const uint8_t *bytes = moves + RESERVE_MOVE_BYTES * i;
+    struct move move = {number(bytes), number(bytes + 2), number(bytes + 4), number(bytes + 6)};
+    return move;
+}
+
+/* Where a node's bytes begin, and how many they are. */
+static char *bytes_of(unsigned node) { return reserve + PAGE_BYTES * reserve_node_pages(HEIGHT, (uint16_t)node).first; }
+static size_t length_of(unsigned node) { return (size_t)PAGE_BYTES * reserve_node_pages(HEIGHT, (uint16_t)node).count; }
+
+/* Carries out the first so many moves of the list. The newcomer's bytes may be written after that, and not before. */
+static void work_list(unsigned count) {
+    char *next = room;
+    for (unsigned i = 0; i < count; i++) { /* every staged tenant is lifted out of the reserve */
+        struct move move = move_at(i);
+        if (move.staged) {
+            memcpy(next, bytes_of(move.from), length_of(move.from));
+            next += length_of(move.from);
+        }
+    }
+    next = room;
+    for (unsigned i = 0; i < count; i++) { /* then all are set down in the list's order, the staged ones last */
+        struct move move = move_at(i);
+        memcpy(bytes_of(move.to), move.staged ? next : bytes_of(move.from), length_of(move.to));
+        if (move.staged) next += length_of(move.to);
+    }
+}
+
+/* The moves of a call, and each page afterwards: what stands on it, or -- if nobody holds it. */
+static void show(unsigned tenant, const char *deed, struct reserve_outcome got) {
+    uint8_t map[RESERVE_MAP_BYTES];
+    printf("tenant %u %s node %u", tenant, deed, (unsigned)got.node);
+    for (unsigned i = 0; i < got.moves; i++) {
+        struct move move = move_at(i);
+        printf(", %u:%u%c%u", move.tenant, move.from, move.staged ? '=' : '>', move.to);
+    }
+    reserve_draw(HEIGHT, table, sizeof table, map, sizeof map);
+    for (unsigned page = 0; page < PAGES; page++) {
+        int held = (map[page / 8] >> (page % 8)) & 1;
+        printf("%s%s", page == 0 ? "\n    " : " ", held ? reserve + PAGE_BYTES * page : "--");
+    }
+    printf("\n");
+}
+
+/* An image gets a block, the others make way, and then its pages are written: A0 and A1 for tenant 0, B0 for tenant 1. */
+static void start(uint16_t tenant, uint16_t level) {
+    struct reserve_outcome got = reserve_grant_level(HEIGHT, table, sizeof table, moves, sizeof moves, tenant, level);
+    if (got.answer != RESERVE_DONE) exit(1);
+    work_list(got.moves);
+    for (unsigned page = 0; page < 1u << level; page++) {
+        snprintf(bytes_of(got.node) + PAGE_BYTES * page, PAGE_BYTES, "%c%u", 'A' + tenant, page);
+    }
+    show(tenant, "gets", got);
+}
+
+/* An image gives up its block, whose bytes nobody needs any more, and the others close up. */
+static void stop(uint16_t tenant) {
+    struct reserve_outcome got = reserve_release(HEIGHT, table, sizeof table, moves, sizeof moves, tenant);
+    if (got.answer != RESERVE_DONE) exit(1);
+    work_list(got.moves);
+    show(tenant, "leaves", got);
+}
+
+int main(void) {
+    if (reserve_open(HEIGHT, table, sizeof table) != RESERVE_DONE) return 1;
+    start(0, 1);
+    start(1, 0);
+    start(2, 0);
+    stop(1);
+    return 0;
+}
