@@ -91,9 +91,17 @@ static void put_node(struct lent table, unsigned tenant, unsigned node) {
     table.bytes[2 * tenant + 1] = (uint8_t)(node / 256);
 }
 
-static int is_move(struct lent moves, unsigned place, unsigned tenant, unsigned from, unsigned to) {
+static int is_entry(struct lent moves, unsigned place, unsigned tenant, unsigned from, unsigned to, unsigned staged) {
     const uint8_t *move = moves.bytes + RESERVE_MOVE_BYTES * place;
-    return word(move) == tenant && word(move + 2) == from && word(move + 4) == to;
+    return word(move) == tenant && word(move + 2) == from && word(move + 4) == to && word(move + 6) == staged;
+}
+
+static int is_direct(struct lent moves, unsigned place, unsigned tenant, unsigned from, unsigned to) {
+    return is_entry(moves, place, tenant, from, to, 0);
+}
+
+static int is_staged(struct lent moves, unsigned place, unsigned tenant, unsigned from, unsigned to) {
+    return is_entry(moves, place, tenant, from, to, 1);
 }
 
 /* ---- a reserve with its table and moves */
@@ -186,24 +194,26 @@ static void opening(void) {
     give_back(odd);
 }
 
-/* four pages: two of them move everybody */
+/* four pages: two single ones move everybody, and one of the movers has to be lifted out of the others' way */
 static void four_pages(void) {
     struct box box = open_box(2);
     EXPECT(granted(box, grant_level(box, 0, 1), 0, 2, 0));
     EXPECT(granted(box, grant_level(box, 1, 0), 1, 6, 0));
     EXPECT(granted(box, grant_level(box, 2, 0), 2, 5, 2));
-    EXPECT(is_move(box.moves, 0, 1, 6, 4));
-    EXPECT(is_move(box.moves, 1, 0, 2, 3));
+    EXPECT(is_direct(box.moves, 0, 0, 2, 3));
+    EXPECT(is_staged(box.moves, 1, 1, 6, 4));
     EXPECT(node_of(box.table, 0) == 3 && node_of(box.table, 1) == 4);
     EXPECT(refused(release(box, 7), RESERVE_REFUSED_HOLDS_NONE));
     EXPECT(refused(grant_pages(box, 3, 1), RESERVE_REFUSED_NO_ROOM));
     EXPECT(refused(grant_level(box, 1, 0), RESERVE_REFUSED_HOLDS));
     EXPECT(moves_end_after(box, 0));
     EXPECT(released(box, release(box, 1), 1, 4, 2));
+    EXPECT(is_direct(box.moves, 0, 0, 3, 2));
+    EXPECT(is_staged(box.moves, 1, 2, 5, 6));
     close_box(box);
 }
 
-/* height 5: a grant that moves three and a release that moves four */
+/* height 5: a grant that moves three and a release that moves four, one of them staged in each */
 static void most_moves(void) {
     struct box box = open_box(5);
     EXPECT(granted(box, grant_level(box, 10, 0), 10, 32, 0));
@@ -217,14 +227,14 @@ static void most_moves(void) {
     {
         unsigned on_12 = node_of(box.table, 12) == 12 ? 12 : 13;
         EXPECT(granted(box, grant_level(box, 14, 1), 14, 17, 3));
-        EXPECT(is_move(box.moves, 0, 10, 34, 44));
-        EXPECT(is_move(box.moves, 1, on_12, 12, 10));
-        EXPECT(is_move(box.moves, 2, 4095, 5, 6));
+        EXPECT(is_direct(box.moves, 0, 4095, 5, 6));
+        EXPECT(is_direct(box.moves, 1, 10, 34, 44));
+        EXPECT(is_staged(box.moves, 2, on_12, 12, 10));
         EXPECT(released(box, release(box, 11), 11, 16, 4));
-        EXPECT(is_move(box.moves, 0, 10, 44, 34));
-        EXPECT(is_move(box.moves, 1, 14, 17, 16));
-        EXPECT(is_move(box.moves, 2, on_12, 10, 12));
-        EXPECT(is_move(box.moves, 3, 4095, 6, 5));
+        EXPECT(is_direct(box.moves, 0, 14, 17, 16));
+        EXPECT(is_direct(box.moves, 1, 10, 44, 34));
+        EXPECT(is_direct(box.moves, 2, 4095, 6, 5));
+        EXPECT(is_staged(box.moves, 3, on_12, 10, 12));
     }
     close_box(box);
 }
@@ -278,7 +288,7 @@ static void arguments(void) {
     close_box(box);
 }
 
-/* 24 bytes are enough for the moves; sizes at their edges */
+/* 32 bytes are enough for the moves; sizes at their edges */
 static void edges(void) {
     struct lent table = lend(RESERVE_TABLE_BYTES, 1);
     struct lent moves = lend(RESERVE_MOVES_BYTES, 0x33);
@@ -296,7 +306,7 @@ static void edges(void) {
     got = reserve_grant_pages(12, table.bytes, table.length, moves.bytes, moves.length, 0, 0);
     EXPECT(got.answer == RESERVE_DONE && got.node == 4096 && node_of(table, 0) == 4096);
     got = reserve_grant_level(12, table.bytes, table.length, moves.bytes, moves.length, 1, 11);
-    EXPECT(got.answer == RESERVE_DONE && got.node == 2 && got.moves == 1 && is_move(moves, 0, 0, 4096, 6144));
+    EXPECT(got.answer == RESERVE_DONE && got.node == 2 && got.moves == 1 && is_direct(moves, 0, 0, 4096, 6144));
     EXPECT(reserve_open(0, table.bytes, table.length) == RESERVE_DONE);
     got = reserve_grant_level(0, table.bytes, table.length, moves.bytes, moves.length, 2, 0);
     EXPECT(got.answer == RESERVE_DONE && got.node == 1);

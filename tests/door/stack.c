@@ -1,6 +1,7 @@
 /*
  * How much stack each function uses: it runs on a stack of its own that was painted before, and the paint left is counted.
- * The last line is 'N passed, M failed'; a function that uses more than the header says is a failure.
+ * Grants and releases are those that move the most tenants. The last line is 'N passed, M failed'; a function that uses more
+ * than the header says is a failure.
  */
 #define _XOPEN_SOURCE 700
 #include <stdio.h>
@@ -13,6 +14,7 @@ enum { STACK = 256 * 1024, MOST = 32 * 1024, PAINT = 0xA5 };
 
 static uint8_t stack[STACK];
 static uint8_t table[RESERVE_TABLE_BYTES], moves[RESERVE_MOVES_BYTES], map[RESERVE_MAP_BYTES], record[RESERVE_RECORD_BYTES];
+static struct reserve_outcome got;
 static ucontext_t here, there;
 static int passed, failed;
 
@@ -21,9 +23,9 @@ static long overhead;
 
 static void nothing(void) {}
 static void opens(void) { reserve_open(12, table, sizeof table); }
-static void grants_level(void) { reserve_grant_level(12, table, sizeof table, moves, sizeof moves, 5, 4); }
-static void grants_pages(void) { reserve_grant_pages(12, table, sizeof table, moves, sizeof moves, 6, 9); }
-static void releases(void) { reserve_release(12, table, sizeof table, moves, sizeof moves, 5); }
+static void grants_level(void) { got = reserve_grant_level(12, table, sizeof table, moves, sizeof moves, 6, 1); }
+static void grants_pages(void) { got = reserve_grant_pages(12, table, sizeof table, moves, sizeof moves, 6, 1); }
+static void releases(void) { got = reserve_release(12, table, sizeof table, moves, sizeof moves, 1); }
 static void names_pages(void) { reserve_node_pages(12, 4100); }
 static void draws(void) { reserve_draw(12, table, sizeof table, map, sizeof map); }
 static void counts(void) { reserve_count(map, sizeof map); }
@@ -45,10 +47,22 @@ static long used_by(void (*call)(void)) {
     return STACK - i;
 }
 
-static void measure(const char *name, void (*call)(void)) {
-    long used = used_by(call) - overhead;
-    printf("%s: %ld bytes of stack\n", name, used);
-    if (used <= MOST) {
+/* five tenants, such that a grant of two pages to the sixth moves three of them, and a release after that moves four */
+static void fill_table(void) {
+    static const uint16_t tenants[][2] = {{5, 3}, {3, 2}, {4, 2}, {1, 1}, {2, 0}};
+    size_t i;
+    reserve_open(12, table, sizeof table);
+    for (i = 0; i < sizeof tenants / sizeof tenants[0]; i++) {
+        reserve_grant_level(12, table, sizeof table, moves, sizeof moves, tenants[i][0], tenants[i][1]);
+    }
+}
+
+static void measure(const char *name, void (*call)(void), unsigned moved) {
+    long used;
+    got.moves = 0;
+    used = used_by(call) - overhead;
+    printf("%s: %ld bytes of stack, %u moves\n", name, used, (unsigned)got.moves);
+    if (used <= MOST && got.moves == moved) {
         passed++;
     } else {
         failed++;
@@ -57,15 +71,17 @@ static void measure(const char *name, void (*call)(void)) {
 
 int main(void) {
     overhead = used_by(nothing);
-    measure("reserve_open", opens);
-    measure("reserve_grant_level", grants_level);
-    measure("reserve_grant_pages", grants_pages);
-    measure("reserve_release", releases);
-    measure("reserve_node_pages", names_pages);
-    measure("reserve_draw", draws);
-    measure("reserve_count", counts);
-    measure("reserve_write_grant_pages", writes);
-    measure("reserve_read", reads);
+    measure("reserve_open", opens, 0);
+    fill_table();
+    measure("reserve_grant_level", grants_level, 3);
+    measure("reserve_release", releases, 4);
+    fill_table();
+    measure("reserve_grant_pages", grants_pages, 3);
+    measure("reserve_node_pages", names_pages, 0);
+    measure("reserve_draw", draws, 0);
+    measure("reserve_count", counts, 0);
+    measure("reserve_write_grant_pages", writes, 0);
+    measure("reserve_read", reads, 0);
     printf("%d passed, %d failed\n", passed, failed);
     return failed == 0 ? 0 : 1;
 }

@@ -1,0 +1,353 @@
+/*
+ * Lists of moves carried out on marked pages, as include/reserve.h says, through long random histories of all heights: no
+ * page may be written while somebody's data lies there, and after every call each tenant's pages have to carry its own marks.
+ * Wrong ways to work a list are tried too, and have to be found. `carry SEED TIMES` draws from another seed, and so many
+ * times as much. The last line is 'N passed, M failed'.
+ */
+#include <stdio.h>
+#include <stdlib.h>
+#include <string.h>
+
+#include "reserve.h"
+
+enum { PAGES = 1 << RESERVE_MAX_HEIGHT, NOBODY = RESERVE_TENANTS, MOST_MOVES = RESERVE_MOVES_BYTES / RESERVE_MOVE_BYTES };
+enum { HISTORIES = 12, CALLS = 1500, UNTOUCHED = 0x77 };
+
+/* ---- the ways to work a list */
+
+enum way { AS_SAID, NOBODY_LIFTED, FROM_THE_END, NEWCOMER_FIRST, RELEASED_LAST };
+
+/* the wrong ones; each writes on pages that are not free, and all but the last destroy data with that */
+static const struct {
+    enum way way;
+    int destroys;
+    const char *name;
+} wrong_ways[] = {
+    {NOBODY_LIFTED, 1, "staged tenants are copied like the others"},
+    {FROM_THE_END, 1, "the list is worked from its end"},
+    {NEWCOMER_FIRST, 1, "the newcomer is written first"},
+    {RELEASED_LAST, 0, "a released block is given up last"},
+};
+
+/* ---- a reserve with its pages */
+
+struct box {
+    uint16_t height;
+    enum way way;
+    uint8_t table[RESERVE_TABLE_BYTES];
+    uint8_t moves[RESERVE_MOVES_BYTES];
+    uint32_t page[PAGES];           /* what stands on each page */
+    uint32_t room[PAGES];           /* what was lifted, each page at its number in the reserve */
+    uint16_t whose[PAGES];          /* whose data lies on each page, or NOBODY */
+    uint16_t node[RESERVE_TENANTS]; /* where each tenant's data lies, or 0 */
+    uint32_t mark[RESERVE_TENANTS]; /* what a tenant's first page has to carry; the next pages count on from there */
+    uint32_t marks_given;
+    uint32_t drawn;
+    int filling;
+    /* what was found */
+    unsigned long covered; /* pages written while somebody's data lay there */
+    unsigned long spoilt;  /* pages that do not carry their tenant's marks, and tenants that the table has elsewhere */
+    int misshapen;         /* a list that is not as the header says */
+};
+
+/* what all right histories together had */
+static struct {
+    unsigned long calls, moves, staged;
+    unsigned most_staged;
+} total;
+
+struct move {
+    unsigned tenant, from, to, staged;
+};
+
+static unsigned number(const uint8_t *bytes) { return bytes[0] + 256u * bytes[1]; }
+
+static struct move move_at(const struct box *box, unsigned i) {
+    const uint8_t *bytes = box->moves + RESERVE_MOVE_BYTES * i;
+    struct move move = {number(bytes), number(bytes + 2), number(bytes + 4), number(bytes + 6)};
+    return move;
+}
+
+static struct reserve_pages pages_of(const struct box *box, unsigned node) {
+    return reserve_node_pages(box->height, (uint16_t)node);
+}
+
+/* ---- carrying out */
+
+static void leave(struct box *box, unsigned node) {
+    struct reserve_pages pages = pages_of(box, node);
+    for (unsigned i = 0; i < pages.count; i++) {
+        box->whose[pages.first + i] = NOBODY;
+    }
+}
+
+static void set_down(struct box *box, unsigned tenant, unsigned node, const uint32_t *data) {
+    struct reserve_pages pages = pages_of(box, node);
+    for (unsigned i = 0; i < pages.count; i++) {
+        box->covered += box->whose[pages.first + i] != NOBODY;
+        box->whose[pages.first + i] = (uint16_t)tenant;
+        box->page[pages.first + i] = data[i];
+    }
+    box->node[tenant] = (uint16_t)node;
+}
+
+static int is_lifted(const struct box *box, struct move move) { return move.staged && box->way != NOBODY_LIFTED; }
+
+static void lift(struct box *box, unsigned node) {
+    struct reserve_pages pages = pages_of(box, node);
+    memcpy(box->room + pages.first, box->page + pages.first, pages.count * sizeof *box->page);
+    leave(box, node);
+}
+
+static void carry(struct box *box, struct move move) {
+    unsigned first = pages_of(box, move.from).first;
+    if (is_lifted(box, move)) {
+        set_down(box, move.tenant, move.to, box->room + first);
+    } else {
+        set_down(box, move.tenant, move.to, box->page + first);
+        leave(box, move.from);
+    }
+}
+
+static void work_list(struct box *box, unsigned count) {
+    for (unsigned i = 0; i < count; i++) {
+        if (is_lifted(box, move_at(box, i))) {
+            lift(box, move_at(box, i).from);
+        }
+    }
+    for (unsigned i = 0; i < count; i++) {
+        carry(box, move_at(box, box->way == FROM_THE_END ? count - 1 - i : i));
+    }
+}
+
+/* a newcomer's pages get marks that no page had before */
+static void arrive(struct box *box, unsigned tenant, unsigned node) {
+    unsigned count = pages_of(box, node).count;
+    box->mark[tenant] = box->marks_given;
+    for (unsigned i = 0; i < count; i++) {
+        box->room[i] = box->marks_given++;
+    }
+    set_down(box, tenant, node, box->room);
+}
+
+static void depart(struct box *box, unsigned tenant, unsigned node) {
+    leave(box, node);
+    box->node[tenant] = 0;
+}
+
+static void carry_out_grant(struct box *box, unsigned tenant, struct reserve_outcome got) {
+    if (box->way == NEWCOMER_FIRST) {
+        arrive(box, tenant, got.node);
+        work_list(box, got.moves);
+    } else {
+        work_list(box, got.moves);
+        arrive(box, tenant, got.node);
+    }
+}
+
+static void carry_out_release(struct box *box, unsigned tenant, struct reserve_outcome got) {
+    if (box->way == RELEASED_LAST) {
+        work_list(box, got.moves);
+        depart(box, tenant, got.node);
+    } else {
+        depart(box, tenant, got.node);
+        work_list(box, got.moves);
+    }
+}
+
+/* ---- judging */
+
+/* direct moves and then staged ones, each from where the tenant's data lies, and behind them the bytes as they were lent */
+static int is_well_formed(const struct box *box, unsigned count) {
+    unsigned staged = 0;
+    if (count > MOST_MOVES) {
+        return 0;
+    }
+    for (unsigned i = 0; i < count; i++) {
+        struct move move = move_at(box, i);
+        if (move.tenant >= RESERVE_TENANTS || move.from == 0 || move.from != box->node[move.tenant]) {
+            return 0;
+        }
+        if (move.staged < staged || move.staged > 1) {
+            return 0;
+        }
+        staged = move.staged;
+    }
+    for (unsigned i = RESERVE_MOVE_BYTES * count; i < RESERVE_MOVES_BYTES; i++) {
+        if (box->moves[i] != UNTOUCHED) {
+            return 0;
+        }
+    }
+    return 1;
+}
+
+static unsigned long spoilt_pages(const struct box *box) {
+    unsigned long spoilt = 0;
+    for (unsigned tenant = 0; tenant < RESERVE_TENANTS; tenant++) {
+        unsigned node = number(box->table + 2 * tenant);
+        spoilt += node != box->node[tenant];
+        if (node != 0) {
+            struct reserve_pages pages = pages_of(box, node);
+            for (unsigned i = 0; i < pages.count; i++) {
+                spoilt += box->page[pages.first + i] != box->mark[tenant] + i;
+            }
+        }
+    }
+    return spoilt;
+}
+
+static void add_up(const struct box *box, unsigned count) {
+    unsigned staged = 0;
+    for (unsigned i = 0; i < count; i++) {
+        staged += move_at(box, i).staged;
+    }
+    total.calls++;
+    total.moves += count;
+    total.staged += staged;
+    if (staged > total.most_staged) {
+        total.most_staged = staged;
+    }
+}
+
+/* ---- histories */
+
+struct call {
+    enum reserve_kind kind;
+    uint16_t tenant;
+    uint16_t size;
+};
+
+static unsigned draw(struct box *box, unsigned below) {
+    box->drawn ^= box->drawn << 13;
+    box->drawn ^= box->drawn >> 17;
+    box->drawn ^= box->drawn << 5;
+    return (box->drawn >> 8) % below;
+}
+
+/* mostly small blocks; times of many grants and times of many releases; now and then a call that is refused */
+static struct call draw_call(struct box *box) {
+    unsigned tenants = box->height < RESERVE_MAX_HEIGHT ? 2u << box->height : RESERVE_TENANTS;
+    unsigned level = draw(box, draw(box, box->height + 1u) + 1);
+    struct call call = {RESERVE_KIND_RELEASE, (uint16_t)draw(box, tenants), 0};
+    if (draw(box, 100) == 0) {
+        box->filling = !box->filling;
+    }
+    if (draw(box, 4) >= (box->filling ? 3u : 1u)) {
+        if (draw(box, 2) == 0) {
+            call.tenant = box->whose[draw(box, 1u << box->height)];
+        }
+    } else if (draw(box, 2) == 0) {
+        call.kind = RESERVE_KIND_GRANT_LEVEL;
+        call.size = (uint16_t)level;
+    } else {
+        call.kind = RESERVE_KIND_GRANT_PAGES;
+        call.size = (uint16_t)draw(box, (1u << level) + 1);
+    }
+    return call;
+}
+
+static struct reserve_outcome make_call(struct box *box, struct call call) {
+    uint8_t *table = box->table, *moves = box->moves;
+    memset(moves, UNTOUCHED, RESERVE_MOVES_BYTES);
+    switch (call.kind) {
+    case RESERVE_KIND_GRANT_LEVEL:
+        return reserve_grant_level(box->height, table, RESERVE_TABLE_BYTES, moves, RESERVE_MOVES_BYTES, call.tenant, call.size);
+    case RESERVE_KIND_GRANT_PAGES:
+        return reserve_grant_pages(box->height, table, RESERVE_TABLE_BYTES, moves, RESERVE_MOVES_BYTES, call.tenant, call.size);
+    default:
+        return reserve_release(box->height, table, RESERVE_TABLE_BYTES, moves, RESERVE_MOVES_BYTES, call.tenant);
+    }
+}
+
+static void make_and_carry_out(struct box *box, struct call call) {
+    struct reserve_outcome got = make_call(box, call);
+    if (got.answer == RESERVE_DONE) {
+        box->misshapen = !is_well_formed(box, got.moves);
+        if (box->misshapen) {
+            return;
+        }
+        if (call.kind == RESERVE_KIND_RELEASE) {
+            carry_out_release(box, call.tenant, got);
+        } else {
+            carry_out_grant(box, call.tenant, got);
+        }
+        if (box->way == AS_SAID) {
+            add_up(box, got.moves);
+        }
+    }
+    box->spoilt = spoilt_pages(box);
+}
+
+static int has_found(const struct box *box) { return box->misshapen || box->covered || box->spoilt; }
+
+/* a history that ends with its first finding; how many calls it had */
+static unsigned run_history(struct box *box, unsigned height, uint32_t seed, enum way way) {
+    unsigned calls = 0;
+    memset(box, 0, sizeof *box);
+    box->height = (uint16_t)height;
+    box->way = way;
+    box->drawn = seed * 2654435761u + height + 1;
+    box->marks_given = 1;
+    for (unsigned i = 0; i < PAGES; i++) {
+        box->whose[i] = NOBODY;
+    }
+    box->misshapen = reserve_open(box->height, box->table, sizeof box->table) != RESERVE_DONE;
+    while (calls < CALLS && !has_found(box)) {
+        make_and_carry_out(box, draw_call(box));
+        calls++;
+    }
+    return calls;
+}
+
+/* ---- checks */
+
+static int passed, failed;
+
+static void expect(int ok) {
+    if (ok) {
+        passed++;
+    } else {
+        failed++;
+    }
+}
+
+static void check_height(struct box *box, unsigned height, uint32_t seed, uint32_t histories) {
+    for (uint32_t i = 0; i < histories; i++) {
+        unsigned calls = run_history(box, height, seed + i, AS_SAID);
+        if (has_found(box)) {
+            printf("height %u, seed %lu, call %u: %lu pages written that were not free, %lu spoilt%s\n", height,
+                   (unsigned long)(seed + i), calls, box->covered, box->spoilt, box->misshapen ? ", a list out of form" : "");
+            expect(0);
+            return;
+        }
+    }
+    expect(1);
+}
+
+/* a wrong way has to be found at every height that has staged tenants */
+static void check_wrong_way(struct box *box, size_t which, uint32_t seed) {
+    unsigned found = 0, heights = 0;
+    for (unsigned height = 2; height <= RESERVE_MAX_HEIGHT; height++) {
+        run_history(box, height, seed, wrong_ways[which].way);
+        heights++;
+        found += box->covered != 0 && (box->spoilt != 0) == wrong_ways[which].destroys;
+    }
+    printf("%s: found at %u of %u heights\n", wrong_ways[which].name, found, heights);
+    expect(found == heights);
+}
+
+int main(int argc, char **argv) {
+    static struct box box;
+    uint32_t seed = argc > 1 ? (uint32_t)strtoul(argv[1], NULL, 10) : 1;
+    uint32_t times = argc > 2 ? (uint32_t)strtoul(argv[2], NULL, 10) : 1;
+    for (unsigned height = 0; height <= RESERVE_MAX_HEIGHT; height++) {
+        check_height(&box, height, seed, HISTORIES * times);
+    }
+    printf("%lu calls, %lu moves, %lu of them staged\n", total.calls, total.moves, total.staged);
+    expect(total.staged > 0 && total.most_staged == 1);
+    for (size_t i = 0; i < sizeof wrong_ways / sizeof wrong_ways[0]; i++) {
+        check_wrong_way(&box, i, seed);
+    }
+    printf("%d passed, %d failed\n", passed, failed);
+    return failed == 0 ? 0 : 1;
+}
