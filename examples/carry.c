@@ -11,7 +11,7 @@
 
 #include "reserve.h"
 
-enum { HEIGHT = 2, PAGES = 1 << HEIGHT, PAGE_BYTES = 4 };
+enum { HEIGHT = 2, PAGES = 1 << HEIGHT, PAGE_BYTES = 16 };
 
 static uint8_t table[RESERVE_TABLE_BYTES];
 static uint8_t moves[RESERVE_MOVES_BYTES];

@@ -1,7 +1,8 @@
 """Runs the program `listing` and compares every byte that it writes. Usage: listing.py LISTING ORACLE CLOSE EXAMPLES
 
 The second planner, ORACLE, gives the listings of the long journals, the library CLOSE is close.c, and the folder EXAMPLES has journals with their
-listings. A check that fails prints its name and the first difference. The last line is 'N passed, M failed'.
+listings. The moves in these listings are carried out on pages, one after the other, to see that each goes onto free ones. A check that fails prints
+its name and the first difference. The last line is 'N passed, M failed'.
 """
 
 import concurrent.futures
@@ -10,6 +11,7 @@ import fcntl
 import os
 import pathlib
 import random
+import re
 import resource
 import signal
 import socket
@@ -107,6 +109,65 @@ def listed_by_oracle(*journals):
 
     with concurrent.futures.ThreadPoolExecutor() as at_once:
         return list(at_once.map(listed, journals))
+
+
+# Carrying out the moves in a listing
+
+
+class Pages:
+    """The pages of a reserve, each with the tenant that lies on it."""
+
+    def __init__(self, height):
+        self.height = height
+        self.tenants = [None] * 2**height
+
+    def covered_by(self, node):
+        level = self.height + 1 - int(node).bit_length()
+        first = (int(node) << level) - 2**self.height
+        return slice(first, first + 2**level)
+
+    def replace(self, node, old, new):
+        covered = self.covered_by(node)
+        lying = self.tenants[covered]
+        assert set(lying) == {old}, f"on node {node} there should be {old}, and there is {lying}"
+        self.tenants[covered] = [new] * len(lying)
+
+    def leave(self, tenant, node):
+        self.replace(node, tenant, None)
+
+    def enter(self, tenant, node):
+        self.replace(node, None, tenant)
+
+
+def work(pages, moves):
+    """Lifts the staged tenants, then sets down everybody in the order of the list, in which they come last."""
+    moves = [re.fullmatch(r"(\d+):(\d+)([>=])(\d+)", move).groups() for move in moves]
+    assert "=>" not in "".join(sign for _, _, sign, _ in moves), f"a staged move before a direct one: {moves}"
+    for tenant, old, sign, _ in moves:
+        if sign == "=":
+            pages.leave(tenant, old)
+    for tenant, old, sign, new in moves:
+        pages.enter(tenant, new)
+        if sign == ">":
+            pages.leave(tenant, old)
+
+
+def carry_out(lines):
+    """Carries out the accepted calls of a listing; raises where a page that is written is not free."""
+    pages = None
+    for line in lines:
+        if line.startswith("!"):
+            break
+        _, kind, who, _, answer, node, count, *moves = line.split(" ")
+        assert len(moves) == int(count), line
+        if kind == "O":
+            pages = Pages(int(who))
+        elif answer == "0" and kind == "R":
+            pages.leave(who, node)
+            work(pages, moves)
+        elif answer == "0":
+            work(pages, moves)
+            pages.enter(who, node)
 
 
 # The program
@@ -216,9 +277,29 @@ def text(lines):
     return "".join(line + "\n" for line in lines).encode()
 
 
+def check_carried_out(name, listing):
+    with check(f"{name}, its moves carried out"):
+        carry_out(listing.decode().splitlines())
+
+
+def check_carrying_out():
+    """Of these lists for one grant only the first can be carried out."""
+    for moves, right in ("0:2>3 1:6=4", True), ("0:2>3 1:6>4", False), ("1:6>4 0:2>3", False), ("1:6=4 0:2>3", False):
+        with check(f"{moves} {'carried out' if right else 'found'}"):
+            try:
+                carry_out(["1 O 2 - 0 - 0", "2 G 0 1 0 2 0", "3 G 1 0 0 6 0", f"4 G 2 0 0 5 2 {moves}"])
+                carried_out = True
+            except AssertionError:
+                carried_out = False
+            assert carried_out == right
+
+
 def check_listings(folder, long_journal, long_listing, drawn_journal, drawn_listing):
     for path in sorted(pathlib.Path(EXAMPLES).glob("*.journal")):
-        check_listed(path.name, folder, path.read_bytes(), path.with_suffix(".listing").read_bytes())
+        listing = path.with_suffix(".listing").read_bytes()
+        check_listed(path.name, folder, path.read_bytes(), listing)
+        if b":" in listing:
+            check_carried_out(path.name, listing)
     for name, journal, lines in edges():
         check_listed(name, folder, journal, text(lines))
     asked = list(sizes())
@@ -227,9 +308,11 @@ def check_listings(folder, long_journal, long_listing, drawn_journal, drawn_list
         with check(f"{name}, by the second planner"):
             equal("its listing", by_oracle, text(lines))
     check_listed("a journal drawn at random", folder, drawn_journal, drawn_listing)
+    check_carried_out("a journal drawn at random", drawn_listing)
     with check("the longest listing has as many bytes as listings get"):
         assert len(long_listing) > 21 * BLOCK, len(long_listing)
     check_listed("the longest listing", folder, long_journal, long_listing)
+    check_carried_out("the longest listing", long_listing)
 
 
 def check_arguments(folder):
@@ -357,6 +440,7 @@ def main():
     long_listing, drawn_listing = listed_by_oracle(long_journal, drawn_journal)
     with tempfile.TemporaryDirectory() as name:
         folder = pathlib.Path(name)
+        check_carrying_out()
         check_listings(folder, long_journal, long_listing, drawn_journal, drawn_listing)
         check_arguments(folder)
         check_no_reading(folder)
