@@ -32,8 +32,8 @@
  * still wanted of them has to be taken before step 1.
  *
  * The room has to hold the pages of all staged entries of the list together. No way to carry out the same moves needs
- * less. Read from each list how many there are: that no grant and no release stages more than one tenant is what tests have
- * found and no promise. 2^h pages are enough for every list.
+ * less. Read from each list how many they are. Tests have found no grant and no release that stages more than one tenant, or
+ * more than a quarter of the reserve, but that is no promise; 2^h pages are enough for every list.
  *
  * examples/carry.c does all this with real bytes.
  *

@@ -213,8 +213,8 @@ static void four_pages(void) {
     close_box(box);
 }
 
-/* height 5: a grant that moves three and a release that moves four, one of them staged in each */
-static void most_moves(void) {
+/* height 5, with one page, two, four, four and eight: a grant of two more moves three tenants, and a release then four */
+static struct box open_crowded_box(void) {
     struct box box = open_box(5);
     EXPECT(granted(box, grant_level(box, 10, 0), 10, 32, 0));
     EXPECT(grant_level(box, 11, 1).answer == RESERVE_DONE);
@@ -222,20 +222,40 @@ static void most_moves(void) {
     EXPECT(grant_level(box, 13, 2).answer == RESERVE_DONE);
     EXPECT(grant_level(box, 4095, 3).answer == RESERVE_DONE);
     EXPECT(node_of(box.table, 10) == 34 && node_of(box.table, 11) == 16);
+    EXPECT(node_of(box.table, 12) == 9 && node_of(box.table, 13) == 12);
     EXPECT(node_of(box.table, 4095) == 5);
-    EXPECT(node_of(box.table, 12) + node_of(box.table, 13) == 9 + 12);
-    {
-        unsigned on_12 = node_of(box.table, 12) == 12 ? 12 : 13;
-        EXPECT(granted(box, grant_level(box, 14, 1), 14, 17, 3));
-        EXPECT(is_direct(box.moves, 0, 4095, 5, 6));
-        EXPECT(is_direct(box.moves, 1, 10, 34, 44));
-        EXPECT(is_staged(box.moves, 2, on_12, 12, 10));
-        EXPECT(released(box, release(box, 11), 11, 16, 4));
-        EXPECT(is_direct(box.moves, 0, 14, 17, 16));
-        EXPECT(is_direct(box.moves, 1, 10, 44, 34));
-        EXPECT(is_direct(box.moves, 2, 4095, 6, 5));
-        EXPECT(is_staged(box.moves, 3, on_12, 10, 12));
-    }
+    return box;
+}
+
+static int is_list_of_four(struct lent moves) {
+    return is_direct(moves, 0, 14, 17, 16) && is_direct(moves, 1, 10, 44, 34) && is_direct(moves, 2, 4095, 6, 5) &&
+           is_staged(moves, 3, 13, 10, 12);
+}
+
+static void most_moves(void) {
+    struct box box = open_crowded_box();
+    EXPECT(granted(box, grant_level(box, 14, 1), 14, 17, 3));
+    EXPECT(is_direct(box.moves, 0, 4095, 5, 6));
+    EXPECT(is_direct(box.moves, 1, 10, 34, 44));
+    EXPECT(is_staged(box.moves, 2, 13, 12, 10));
+    EXPECT(released(box, release(box, 11), 11, 16, 4));
+    EXPECT(is_list_of_four(box.moves));
+    close_box(box);
+}
+
+/* four moves go into just the bytes that have to be lent, and with one byte fewer nothing is done */
+static void bytes_of_four_moves(void) {
+    struct box box = open_crowded_box();
+    struct lent few = lend(RESERVE_MOVES_BYTES - 1, 0x22);
+    struct lent enough = lend(RESERVE_MOVES_BYTES, 0x22);
+    struct reserve_outcome got;
+    EXPECT(granted(box, grant_level(box, 14, 1), 14, 17, 3));
+    EXPECT(refused(reserve_release(5, box.table.bytes, box.table.length, few.bytes, few.length, 11), RESERVE_REFUSED_MOVES));
+    EXPECT(all_are(few, 0x22) && node_of(box.table, 11) == 16);
+    got = reserve_release(5, box.table.bytes, box.table.length, enough.bytes, enough.length, 11);
+    EXPECT(got.answer == RESERVE_DONE && got.node == 16 && got.moves == 4 && is_list_of_four(enough));
+    give_back(few);
+    give_back(enough);
     close_box(box);
 }
 
@@ -612,6 +632,7 @@ int main(void) {
     opening();
     four_pages();
     most_moves();
+    bytes_of_four_moves();
     arguments();
     edges();
     sizes();
