@@ -53,7 +53,7 @@ struct box {
 /* what all right histories together had */
 static struct {
     unsigned long calls, moves, staged;
-    unsigned long beyond; /* lists with more than one staged tenant, or with more staged pages than a quarter of the reserve */
+    unsigned long beyond; /* lists with more than one staged tenant, or more staged pages than a quarter of the reserve */
 } total;
 
 struct move {
@@ -248,14 +248,15 @@ static struct call draw_call(struct box *box) {
 
 static struct reserve_outcome make_call(struct box *box, struct call call) {
     uint8_t *table = box->table, *moves = box->moves;
-    memset(moves, UNTOUCHED, RESERVE_MOVES_BYTES);
+    const size_t table_length = sizeof box->table, moves_length = sizeof box->moves;
+    memset(moves, UNTOUCHED, moves_length);
     switch (call.kind) {
     case RESERVE_KIND_GRANT_LEVEL:
-        return reserve_grant_level(box->height, table, RESERVE_TABLE_BYTES, moves, RESERVE_MOVES_BYTES, call.tenant, call.size);
+        return reserve_grant_level(box->height, table, table_length, moves, moves_length, call.tenant, call.size);
     case RESERVE_KIND_GRANT_PAGES:
-        return reserve_grant_pages(box->height, table, RESERVE_TABLE_BYTES, moves, RESERVE_MOVES_BYTES, call.tenant, call.size);
+        return reserve_grant_pages(box->height, table, table_length, moves, moves_length, call.tenant, call.size);
     default:
-        return reserve_release(box->height, table, RESERVE_TABLE_BYTES, moves, RESERVE_MOVES_BYTES, call.tenant);
+        return reserve_release(box->height, table, table_length, moves, moves_length, call.tenant);
     }
 }
 
@@ -343,7 +344,7 @@ int main(int argc, char **argv) {
     for (unsigned height = 0; height <= RESERVE_MAX_HEIGHT; height++) {
         check_height(&box, height, seed, HISTORIES * times);
     }
-    printf("%lu calls, %lu moves, %lu of them staged; %lu lists with more than one, or with more than a quarter of the reserve\n",
+    printf("%lu calls, %lu moves, %lu of them staged; %lu lists stage more than one tenant or a quarter of the reserve\n",
            total.calls, total.moves, total.staged, total.beyond);
     expect(total.staged > 0 && total.beyond == 0);
     for (size_t i = 0; i < sizeof wrong_ways / sizeof wrong_ways[0]; i++) {
