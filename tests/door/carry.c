@@ -287,7 +287,7 @@ static unsigned run_history(struct box *box, unsigned height, uint32_t seed, enu
     memset(box, 0, sizeof *box);
     box->height = (uint16_t)height;
     box->way = way;
-    box->drawn = seed * 2654435761u + height + 1;
+    box->drawn = (seed * 2654435761u + 2 * height) | 1;
     box->marks_given = 1;
     for (unsigned i = 0; i < PAGES; i++) {
         box->whose[i] = NOBODY;
