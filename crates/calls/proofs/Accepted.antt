@@ -27,7 +27,7 @@ use Rattle.table.proofs.Paired.{movers-paired, movers-fill, newcomer-paired}
 use Rattle.carrying.specs.Carrying.{Workable}
 use Rattle.carrying.specs.Order.{inOrder}
 use Rattle.carrying.proofs.Moving.{Unsorted}
-use Rattle.carrying.proofs.Ordered.{in-order-length, in-order-entry, in-order-has, in-order-once}
+use Rattle.carrying.proofs.Ordered.{in-order-entry, in-order-has, in-order-once}
 use Rattle.carrying.proofs.Workable.{in-order-workable}
 use Rattle.calls.specs.Call.{Call, grant-level, grant-pages, release, tenantOf, levelFor}
 use Rattle.calls.specs.Step.{Outcome, first, check, validity, holdings, checks, granted, released, refused, step}

@@ -1,16 +1,15 @@
 -- One call keeps what histories keep, and one box has everything that document 01 lists under "Histories".
-use mathlib.Core.Path.{_≡_, refl, sym, ap, _∙_}
+use mathlib.Core.Path.{_≡_, refl, sym, _∙_}
 use mathlib.Core.List.{List}
-use mathlib.Core.Option.{Option, some, none}
-use Prim.Native.Nat.{ℕ, suc, _≤_, _<_}
+use mathlib.Core.Option.{some, none}
+use Prim.Native.Nat.{ℕ, _≤_, _<_}
 use native.Mathlib.Omega.{arith}
 use lib.ListN.{length, length-set}
 use Rattle.layout.specs.Change.{mostByGrant, mostByRelease}
-use Rattle.table.specs.Table.{nodeAt, occupied}
 use Rattle.calls.specs.Call.{Call, grant-level, grant-pages, release, tenantOf}
 use Rattle.calls.specs.Step.{Outcome, step}
 use Rattle.calls.specs.History.{Book, write, enter}
-use Rattle.calls.specs.Demand.{Valid, Asks, by-level, by-pages, Releases, releases, Box, changed}
+use Rattle.calls.specs.Demand.{Asks, by-level, by-pages, Releases, releases, Box, changed}
 use Rattle.table.proofs.Newcomer.{granted-others}
 use Rattle.calls.proofs.Checks.{answer-not-valid}
 use Rattle.calls.proofs.Kept.{Kept, sound, within, held-is-size, only-safe-set, level-in-counts}

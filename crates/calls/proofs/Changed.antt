@@ -1,24 +1,21 @@
 -- The planner may be asked in every grant and release that is accepted, and what it plans is what the value-level call says.
-use mathlib.Core.Path.{_≡_, refl, sym, ap, ap₂, _∙_, subst}
-use mathlib.Core.Bool.{Bool, true, false, cond}
+use mathlib.Core.Path.{_≡_, refl, ap, _∙_, subst}
 use mathlib.Core.List.{List}
-use Prim.Native.Nat.{ℕ, suc, _+_, _^_, _≤_, _<_}
+use Prim.Native.Nat.{ℕ, _+_, _^_, _≤_, _<_}
 use native.Mathlib.Nat.{le-trans}
 use native.Mathlib.Omega.{arith}
 use borrow.Author.Tests.{le-leb}
-use lib.Dec.{leb}
 use lib.ListN.{length, getD, set}
 use lib.Seq.{getD-take}
 use lib.Pow.{pow-mono}
 use Rattle.tree.specs.Node.{level}
-use Rattle.tree.specs.Held.{Nodes}
 use Rattle.layout.specs.Layout.{pages}
 use Rattle.layout.specs.Set.{layoutSet}
 use Rattle.layout.specs.Change.{oneMore, oneFewer}
 use Rattle.layout.specs.Rows.{no-level, rowsOf}
 use Rattle.table.specs.Table.{nodeAt, occupied, countsOf, tenantsAt, InOrder}
 use Rattle.table.specs.Owners.{ownersOf}
-use Rattle.table.specs.Pairing.{newcomer, moved, movesOf, written}
+use Rattle.table.specs.Pairing.{newcomer, movesOf, written}
 use Rattle.table.specs.Plan.{movesIn, planOf, AllPlanned}
 use Rattle.table.specs.declared.plan.Plan.{Plan}
 use Rattle.table.specs.declared.plan.Planned.{Planned}

@@ -1,7 +1,7 @@
 -- The plan that is chosen is the best of all plans.
-use mathlib.Core.Path.{_≡_, refl, sym, ap, _∙_}
-use mathlib.Core.Bool.{Bool, true, false, true≢false, false≢true}
-use Prim.Native.Nat.{ℕ, suc, _+_, _-_, _*_, _^_, _≤_, _<_}
+use mathlib.Core.Path.{_≡_, sym, ap, _∙_}
+use mathlib.Core.Bool.{true, false, true≢false}
+use Prim.Native.Nat.{ℕ, _+_, _-_, _*_, _^_, _≤_, _<_}
 use native.Mathlib.Omega.{arith}
 use native.Mathlib.Decide.{decLt}
 use lib.Pow.{pow-pos}
@@ -10,7 +10,7 @@ use Rattle.staging.specs.Choice.{has, works?, costOf, everyone, chosenOf
 use Rattle.staging.proofs.Bits.{has-above, numberOf, number-below, has-number, number-of-has, number-greater}
 use Rattle.staging.proofs.Sums.{sum-both, count-le}
 use Rattle.staging.proofs.Running.{not-both-ways, works-of-plan, plan-of, order-lowest-first}
-use Rattle.staging.proofs.Searching.{BestFrom, chosen-best}
+use Rattle.staging.proofs.Searching.{chosen-best}
 
 cost-is : (g : Graph) (S : Group) → costOf g S ≡ pagesOf g S * 8 + tenantsOf g S
 unfolding costOf

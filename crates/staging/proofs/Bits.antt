@@ -12,7 +12,7 @@ use lib.Dec.{eqb, eqb·suc-zero, eqb·suc-suc}
 use lib.Pow.{shr-shr, pow-pos, pow-mono}
 use Rattle.staging.specs.Graph.{Group, joined}
 use Rattle.staging.specs.Choice.{highest, has, everyone}
-use Rattle.staging.proofs.Highest.{highest-none, none-of-zero, highest-of-suc}
+use Rattle.staging.proofs.Highest.{none-of-zero, highest-of-suc}
 
 -- ---- the digits of a number
 

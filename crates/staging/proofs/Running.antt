@@ -1,11 +1,10 @@
 -- Whoever can go goes, the lowest tenant number first: this gets everybody away exactly if some order does.
 use mathlib.Core.Path.{_≡_, refl, sym, ap, _∙_}
-use mathlib.Core.Bool.{Bool, true, false, not, _&&_, _||_, cond, true≢false, false≢true}
+use mathlib.Core.Bool.{Bool, true, false, not, _&&_, _||_, true≢false, false≢true}
 use mathlib.Core.List.{List, [], _∷_}
 use Prim.Native.Nat.{ℕ, zero, suc, _+_, _≤_, _<_}
 use native.Mathlib.Omega.{arith}
-use native.Mathlib.Decide.{ℕ-discrete}
-use borrow.Author.Tests.{eqb-true, eqb-false, eq-eqb, ne-eqb}
+use borrow.Author.Tests.{eqb-true, eq-eqb}
 use lib.Dec.{eqb}
 use Rattle.staging.specs.Graph.{Group, Graph, joined, away, CanGo, Run, nobody, next, Plan, sumOver, LowestFirst}
 use Rattle.staging.specs.Choice.{highest, canGo?, nextOf, ifAny, orderFrom, orderOf, works?}

@@ -1,12 +1,11 @@
 -- The search from the highest number down finds, of all groups that work, one of the least cost, and of those the highest number.
 use mathlib.Core.Path.{_≡_, refl, sym, ap, _∙_}
-use mathlib.Core.Bool.{Bool, true, false, not, _&&_, cond, true≢false, false≢true}
-use Prim.Native.Nat.{ℕ, zero, suc, _+_, _-_, _^_, _≤_, _<_}
+use mathlib.Core.Bool.{Bool, true, false, _&&_, cond, false≢true}
+use Prim.Native.Nat.{ℕ, zero, suc, _-_, _≤_, _<_}
 use native.Mathlib.Omega.{arith}
 use native.Mathlib.Decide.{ℕ-discrete}
 use borrow.Author.Tests.{ltb-true, ltb-false}
-use lib.Dec.{eqb, ltb}
-use lib.Pow.{pow-pos}
+use lib.Dec.{ltb}
 use Rattle.staging.specs.Graph.{Graph}
 use Rattle.staging.specs.Choice.{has, works?, costOf, betterOf, bestBelow, everyone, chosenOf}
 use Rattle.staging.proofs.Bits.{everyone-has}

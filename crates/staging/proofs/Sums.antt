@@ -1,12 +1,11 @@
 -- Sums over a group.
 use mathlib.Core.Path.{_≡_, refl, sym, ap, _∙_}
-use mathlib.Core.Bool.{Bool, true, false, _||_, cond, true≢false, false≢true}
+use mathlib.Core.Bool.{Bool, true, false, cond}
 use Prim.Native.Nat.{ℕ, zero, suc, _+_, _*_, _≤_, _<_}
 use native.Mathlib.Omega.{arith}
 use native.Mathlib.Decide.{ℕ-discrete}
 use borrow.Author.Tests.{eq-eqb, ne-eqb}
-use lib.Dec.{eqb}
-use Rattle.staging.specs.Graph.{Group, Graph, joined, sumOver}
+use Rattle.staging.specs.Graph.{Group, joined, sumOver}
 
 pub sum-cong : (n : ℕ) (S S′ : Group) (f : ℕ → ℕ) → ((k : ℕ) → k < n → S k ≡ S′ k) → sumOver n S f ≡ sumOver n S′ f
 sum-cong zero S S′ f same = refl

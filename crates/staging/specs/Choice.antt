@@ -1,6 +1,5 @@
 -- The plan that is chosen, as it is computed: groups by number, tried from the highest number down. `proofs/Best.antt` shows that it is the
 -- best of all plans.
-use mathlib.Core.Path.{_≡_}
 use mathlib.Core.Bool.{Bool, not, _&&_, cond}
 use mathlib.Core.List.{List, [], _∷_}
 use Prim.Native.Nat.{ℕ, zero, suc, _+_, _-_, _*_, _/_, _%_, _^_, _≤_, _<_}

@@ -10,26 +10,14 @@ use Rattle.tree.specs.Node.{level, LeftOf}
 use Rattle.tree.specs.Held.{Nodes, Within, sizes}
 use Rattle.tree.proofs.LeftToRight.{less-of-left-of, left-of-less}
 use Rattle.table.specs.Table.{nodeAt, occupied}
-use Rattle.table.specs.Pairing.{shifts, goes, newcomer, moved, movesOf}
-use Rattle.table.specs.Paired.{Mover, Place, Taken, MoversPaired, MoversFill, NewcomerPaired, ListedBefore, ListInOrder}
-use Rattle.table.specs.declared.Move.{Move}
+use Rattle.table.specs.Pairing.{shifts, goes, newcomer, moved}
+use Rattle.table.specs.Paired.{Mover, Place, Taken, MoversPaired, MoversFill, NewcomerPaired}
 use Rattle.table.proofs.Keep.{OnlyIn}
 use Rattle.table.proofs.Shifts.{newcomer-place, goes-to-new}
 use Rattle.table.proofs.Occupied.{tenant-of, occupied-by}
 use Rattle.table.proofs.Moved.{Movable, room-of, moved-at, moved-nothing, moved-held-before, moved-stays, moved-fills}
-use Rattle.table.proofs.Moves.{moveBy}
 use Rattle.table.proofs.Newcomer.{OneMore, moved-fills-but-newcomer}
-use Rattle.table.proofs.Sorted.{sorted-places, sorted-map}
-use Rattle.table.proofs.Turns.{goes-left-to-right, goes-left-of-newcomer, shifts-in-order}
-
--- the list of moves is in its order
-pub moves-in-order : {h : ℕ} {N : Nodes} {T : List ℕ} → Movable h N T → (d : Move) → ListInOrder h d (movesOf h N T)
-unfolding movesOf
-moves-in-order {h} {N} {T} M d =
-    sorted-places Before d (movesOf h N T) (sorted-map Before (moveBy T) (shifts h (occupied T) N) (shifts-in-order (room-of M)))
-  where
-    Before : Move → Move → Type 0
-    Before m m′ = ListedBefore h (m .from) (m′ .from)
+use Rattle.table.proofs.Turns.{goes-left-to-right, goes-left-of-newcomer}
 
 -- T₁ is the table with which the moves are planned: T with nothing for t; T′ has the others where the moves bring them
 module _ {h : ℕ} {N : Nodes} {T₁ : List ℕ} (M : Movable h N T₁) (t : ℕ) (T T′ : List ℕ) (out : nodeAt T₁ t ≡ 0)

@@ -1,10 +1,8 @@
 -- Lists in which each entry comes before all those after it.
-use mathlib.Core.Path.{_≡_, refl, ap, subst}
+use mathlib.Core.Path.{_≡_, ap}
 use mathlib.Core.Bool.{Bool, true, false, cond}
-use mathlib.Core.Logic.{_⊎_, inl, inr}
-use mathlib.Core.List.{List, [], _∷_, _++_, map}
-use mathlib.Core.List.{List·Memᴰ as In, List·Memᴰ·head as at-head, List·Memᴰ·tail as in-tail}
-use mathlib.Core.List.{List·Memᴰ·append-cases as in-either, Memᴰ·of-map as of-map}
+use mathlib.Core.List.{List, [], _∷_}
+use mathlib.Core.List.{List·Memᴰ as In}
 use Prim.Native.Nat.{ℕ, zero, suc, _<_}
 use native.Mathlib.Omega.{arith}
 use native.Mathlib.Decide.{decLt, ℕ-discrete}
@@ -28,25 +26,6 @@ sorted-places R d [] s i j p q = absurd (omega arith)
 sorted-places R d (x ∷ xs) s i zero p q = absurd (omega arith)
 sorted-places R d (x ∷ xs) s zero (suc j) p q = s .0 (getD xs j d) (at-place d xs j (omega arith))
 sorted-places R d (x ∷ xs) s (suc i) (suc j) p q = sorted-places R d xs (s .1) i j (omega arith) (omega arith)
-
--- what R relates among the members, Q does too
-pub sorted-weaken : {A : Type 0} {R Q : A → A → Type 0} (xs : List A) → Sorted R xs → ((x y : A) → In x xs → In y xs → R x y → Q x y) → Sorted Q xs
-sorted-weaken [] s by = tt
-sorted-weaken (x ∷ xs) s by =
-    (λ y m. by x y (at-head refl) (in-tail m) (s .0 y m), sorted-weaken xs (s .1) (λ u v m k. by u v (in-tail m) (in-tail k)))
-
-pub sorted-append : {A : Type 0} (R : A → A → Type 0) (xs ys : List A) → Sorted R xs → Sorted R ys → ((x y : A) → In x xs → In y ys → R x y)
-    → Sorted R (xs ++ ys)
-sorted-append R [] ys s t across = t
-sorted-append {A} R (x ∷ xs) ys s t across = (λ y m. go y (in-either xs m), sorted-append R xs ys (s .1) t (λ u v m. across u v (in-tail m)))
-  where
-    go : (y : A) → In y xs ⊎ In y ys → R x y
-    go y (inl m) = s .0 y m
-    go y (inr m) = across x y (at-head refl) m
-
-pub sorted-map : {A B : Type 0} (R : B → B → Type 0) (f : A → B) (xs : List A) → Sorted (λ a b. R (f a) (f b)) xs → Sorted R (map f xs)
-sorted-map R f [] s = tt
-sorted-map R f (x ∷ xs) s = (λ y m. let r = of-map f xs m in subst (R (f x)) (r .2) (s .0 (r .0) (r .1)), sorted-map R f xs (s .1))
 
 -- ---- ascending numbers
 

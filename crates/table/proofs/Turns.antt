@@ -1,22 +1,16 @@
--- The shifts keep the order of a level, the newcomer's node comes after all to which they lead, and they are listed in order.
-use mathlib.Core.Path.{_≡_, refl, sym, _∙_}
+-- The shifts keep the order of a level, and the newcomer's node comes after all to which they lead.
+use mathlib.Core.Path.{_≡_, refl}
 use mathlib.Core.Bool.{true, not, _&&_}
-use mathlib.Core.List.{List, [], _∷_}
-use mathlib.Core.List.{List·Memᴰ as In}
-use Prim.Native.Nat.{ℕ, zero, suc, _+_, _-_, _^_, _≤_, _<_}
+use Prim.Native.Nat.{ℕ, suc, _-_, _^_, _≤_, _<_}
 use native.Mathlib.Omega.{arith}
 use lib.ListN.{length, getD}
 use Rattle.tree.specs.Node.{level}
 use Rattle.tree.specs.Held.{Nodes, sizes}
-use Rattle.tree.proofs.LeftToRight.{left-of-less}
-use Rattle.table.specs.Pairing.{keep, levelNodes, leavers, places, Shift, pair, shiftsFrom, shifts, goes, newcomer}
-use Rattle.table.specs.Paired.{ListedBefore, lower-level, same-level}
+use Rattle.table.specs.Pairing.{keep, levelNodes, leavers, places, shifts, goes, newcomer}
 use Rattle.table.proofs.Distinct.{place-of}
-use Rattle.table.proofs.Keep.{of-leavers, in-leavers, places-and-leavers}
-use Rattle.table.proofs.Pair.{pair-from-in}
-use Rattle.table.proofs.Shifts.{Room, pairAt, of-shiftsFrom, enough-places, leaves-at, goes-in-turn}
-use Rattle.table.proofs.Sorted.{Sorted, sorted-places, sorted-append, sorted-weaken}
-use Rattle.table.proofs.Sorted.{Ascending, ascending-upFrom, ascending-keep, earlier-of-less}
+use Rattle.table.proofs.Keep.{in-leavers, places-and-leavers}
+use Rattle.table.proofs.Shifts.{Room, enough-places, goes-in-turn}
+use Rattle.table.proofs.Sorted.{sorted-places, Ascending, ascending-upFrom, ascending-keep, earlier-of-less}
 
 -- those nodes of a level that pass a test
 level-left-to-right : (p : Nodes) (h l : ℕ) → Ascending (keep p (levelNodes h l))
@@ -67,44 +61,3 @@ module _ {h : ℕ} {S N : Nodes} (R : Room h S N) where
       rw (a .arrives)
       (sorted-places (λ x y. x < y) 0 (places h S N x) (places-left-to-right h S N x) (a .at) (length (leavers h S N x)) (a .is-leaver)
       (omega (arith, places-and-leavers h S N (R .old) (R .new) x q, grown)))
-
-  -- ---- the list
-
-  -- s is listed before t
-  abbrev Precedes : Shift → Shift → Type 0
-  Precedes s t = ListedBefore h (s .from) (t .from)
-
-  pair-in-order : (xs ys : List ℕ) → Sorted (ListedBefore h) xs → Sorted Precedes (pair xs ys)
-  pair-in-order [] ys s = tt
-  pair-in-order (x ∷ xs) [] s = tt
-  pair-in-order (x ∷ xs) (y ∷ ys) s = (λ t m. s .0 (t .from) (pair-from-in xs ys t m), pair-in-order xs ys (s .1))
-
-  -- the leavers of a level, left to right, are in order
-  leavers-in-order : (l : ℕ) → l ≤ h → Sorted (ListedBefore h) (leavers h S N l)
-  leavers-in-order l q = sorted-weaken (leavers h S N l) (leavers-left-to-right h S N l) before
-    where
-      before : (n m : ℕ) → In n (leavers h S N l) → In m (leavers h S N l) → n < m → ListedBefore h n m
-      before n m k k′ less =
-          let a = of-leavers h S N l q n k .of-level in
-          let b = of-leavers h S N l q m k′ .of-level in
-          let same : level h n ≡ level h m = a .level-is ∙ sym (b .level-is) in
-          same-level same (left-of-less h n m (a .in-tree) (b .in-tree) same less)
-
-  levels-in-order : (l n : ℕ) → l + n ≤ suc h → Sorted Precedes (shiftsFrom h S N l n)
-  levels-in-order l zero q = tt
-  levels-in-order l (suc n) q =
-      sorted-append Precedes (pairAt h S N l) (shiftsFrom h S N (suc l) n)
-      (pair-in-order (leavers h S N l) (places h S N l) (leavers-in-order l (omega arith)))
-      (levels-in-order (suc l) n (omega arith))
-      across
-    where
-      across : (s t : Shift) → In s (pairAt h S N l) → In t (shiftsFrom h S N (suc l) n) → Precedes s t
-      across s t m k =
-          let r = of-shiftsFrom h S N (suc l) n t k in
-          let low = leaves-at R l (omega arith) s m .of-level .level-is in
-          let high = leaves-at R (r .0) (omega (arith, r .2)) t (r .3) .of-level .level-is in
-          lower-level (omega (arith, low, high, r .1))
-
-  pub shifts-in-order : Sorted Precedes (shifts h S N)
-  unfolding shifts
-  shifts-in-order = levels-in-order 0 (suc h) (omega arith)

@@ -1,15 +1,12 @@
--- Who goes where and in which order the moves are listed, in document 01's words: over the tables T before and T′ after a call of tenant t, and
--- the new set N. `proofs/Paired.antt` shows all of it of the pairing in Pairing.antt.
+-- Who goes where, in document 01's words: over the tables T before and T′ after a call of tenant t, and the new set N. `proofs/Paired.antt` shows all of it of the pairing in Pairing.antt.
 use mathlib.Core.Path.{_≡_}
 use mathlib.Core.Bool.{true}
 use mathlib.Core.Logic.{_⊎_}
 use mathlib.Core.List.{List}
 use Prim.Native.Nat.{ℕ, _<_}
-use lib.ListN.{length, getD}
 use Rattle.tree.specs.Node.{level, LeftOf}
 use Rattle.tree.specs.Held.{Nodes}
 use Rattle.table.specs.Table.{nodeAt}
-use Rattle.table.specs.declared.Move.{Move}
 
 -- u is one of the others: a tenant with a node before, and not the same node after
 pub record Mover (t : ℕ) (T T′ : List ℕ) (u : ℕ) : Type 0 where
@@ -51,14 +48,3 @@ pub record NewcomerPaired (h : ℕ) (N : Nodes) (t : ℕ) (T T′ : List ℕ) : 
   pub fill : (n : ℕ) → Place N t T T′ n → (n ≡ nodeAt T′ t) ⊎ Taken t T T′ n
   -- it takes the last one: the new node of every mover on its level is left of it
   pub last : (u : ℕ) → Mover t T T′ u → level h (nodeAt T′ u) ≡ level h (nodeAt T′ t) → LeftOf h (nodeAt T′ u) (nodeAt T′ t)
-
--- ---- the list's order: by level from 0 up, then old node left to right
-
--- whoever leaves node m is listed before whoever leaves node n
-pub data ListedBefore (h m n : ℕ) : Type 0 where
-  lower-level : level h m < level h n → ListedBefore h m n
-  same-level : level h m ≡ level h n → LeftOf h m n → ListedBefore h m n
-
--- of any two entries the upper one is of that kind; d is what stands for entries past the end
-abbrev pub ListInOrder : ℕ → Move → List Move → Type 0
-ListInOrder h d ms = (i j : ℕ) → i < j → j < length ms → ListedBefore h (getD ms i d .from) (getD ms j d .from)

@@ -44,7 +44,7 @@ abbrev pub shiftsFrom : ℕ → Nodes → Nodes → ℕ → ℕ → List Shift
 shiftsFrom h S N l zero = []
 shiftsFrom h S N l (suc n) = pair (leavers h S N l) (places h S N l) ++ shiftsFrom h S N (suc l) n
 
--- all of them, in the list's order: by level from 0 up, then old node left to right
+-- all of them: by level from 0 up, then old node left to right
 unfoldable pub shifts : ℕ → Nodes → Nodes → List Shift
 shifts h S N = shiftsFrom h S N 0 (suc h)
 
@@ -66,7 +66,7 @@ ownerOf (e ∷ T) n = cond (eqb (nodeOf e) n) 0 (suc (ownerOf T n))
 unfoldable pub moved : ℕ → Nodes → List ℕ → List ℕ
 moved h N T = map (λ e. withNode e (goes (shifts h (occupied T) N) (nodeOf e))) T
 
--- the list of moves: each shift with the tenant that it moves
+-- the moves: each shift with the tenant that it moves. Who of them is staged is decided later, with their order (carrying/specs/Order.antt).
 unfoldable pub movesOf : ℕ → Nodes → List ℕ → List Move
 movesOf h N T = map (λ s. record { tenant = ownerOf T (s .from); from = s .from; to = s .to; staged = 0 }) (shifts h (occupied T) N)
 

@@ -1,8 +1,7 @@
 -- `calls::change::give_up` meets its contract: a refusal where nothing is held, and otherwise what the planner plans.
-use mathlib.Core.Path.{_≡_, ap, _∙_}
+use mathlib.Core.Path.{ap, _∙_}
 use mathlib.Core.List.{List}
 use Prim.Native.Nat.{ℕ, _<_}
-use native.Mathlib.Omega.{arith}
 use lib.ListN.{length, set, length-set}
 use Rattle.table.specs.Table.{nodeAt, countsOf, InOrder}
 use Rattle.table.specs.Owners.{ownersOf}

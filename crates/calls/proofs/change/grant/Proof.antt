@@ -1,5 +1,5 @@
 -- `calls::change::grant` meets its contract: each refusal where its condition holds and those before it fail, and otherwise what the planner plans.
-use mathlib.Core.Path.{_≡_, sym, ap, _∙_}
+use mathlib.Core.Path.{_≡_, sym, _∙_}
 use mathlib.Core.Bool.{true, false}
 use mathlib.Core.List.{List}
 use Prim.Native.Nat.{ℕ, _+_, _^_, _≤_, _<_}
