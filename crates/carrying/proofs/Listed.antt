@@ -1,6 +1,6 @@
 -- The list of moves in the order of a plan has each of the moves once: first those that the run names, then those of the staged group.
 use mathlib.Core.Path.{_≡_, refl, sym, ap, _∙_}
-use mathlib.Core.Bool.{Bool, true, false, true≢false, _||_, cond}
+use mathlib.Core.Bool.{Bool, true, false, true≢false, _||_}
 use mathlib.Core.Logic.{_⊎_, inl, inr, ⊎-elim}
 use mathlib.Core.List.{List, [], _∷_, _++_}
 use mathlib.Core.List.{List·Memᴰ as In, List·Memᴰ·head as at-head, List·Memᴰ·tail as in-tail}
@@ -8,7 +8,6 @@ use mathlib.Core.List.{List·Memᴰ·not-nil as in-nothing, List·Memᴰ·cases-
 use mathlib.Core.List.{Memᴰ·append-left as in-left, Memᴰ·append-right as in-right}
 use Prim.Native.Nat.{ℕ, zero, suc, _<_}
 use native.Mathlib.Omega.{arith}
-use native.Mathlib.Decide.{ℕ-discrete}
 use borrow.Author.Tests.{eqb-true}
 use lib.Dec.{eqb}
 use lib.ListN.{length, getD, length-map}
@@ -22,38 +21,7 @@ use Rattle.table.specs.declared.Move.{Move}
 use Rattle.table.proofs.Distinct.{Distinct, place-of, at-place, distinct-places, distinct-append, length-as-count, getD-map}
 use Rattle.carrying.specs.Order.{waitingOf, marked, entries, worked}
 use Rattle.carrying.proofs.Moving.{TenantsOnce}
-
--- ---- the members of a group
-
-of-members : (n : ℕ) (S : Group) (k : ℕ) → In k (members n S) → (k < n) × (S k ≡ true)
-of-members zero S k m = absurd (in-nothing m)
-of-members (suc n) S k m = by-test (S n) refl m (of-members n S k)
-  where
-    later : (k < n) × (S k ≡ true) → (k < suc n) × (S k ≡ true)
-    later r = (omega (arith, r .0), r .1)
-
-    by-test : (b : Bool) → S n ≡ b → In k (cond b (n ∷ members n S) (members n S)) → (In k (members n S) → (k < n) × (S k ≡ true))
-        → (k < suc n) × (S k ≡ true)
-    by-test true e m′ rest = ⊎-elim (λ (f : k ≡ n). (omega arith, ap S f ∙ e)) (λ r. later (rest r)) (head-or-tail m′)
-    by-test false e m′ rest = later (rest m′)
-
-in-members : (n : ℕ) (S : Group) (k : ℕ) → k < n → S k ≡ true → In k (members n S)
-in-members zero S k q e = absurd (omega arith)
-in-members (suc n) S k q e = by-test (S n) refl (ℕ-discrete k n) (λ r. in-members n S k r e)
-  where
-    by-test : (b : Bool) → S n ≡ b → Dec (k ≡ n) → (k < n → In k (members n S)) → In k (cond b (n ∷ members n S) (members n S))
-    by-test true f (yes s) rest = at-head s
-    by-test true f (no s) rest = in-tail (rest (omega arith))
-    by-test false f (yes s) rest = absurd (true≢false (sym e ∙ ap S s ∙ f))
-    by-test false f (no s) rest = rest (omega arith)
-
-distinct-members : (n : ℕ) (S : Group) → Distinct (members n S)
-distinct-members zero S = tt
-distinct-members (suc n) S = by-test (S n) (distinct-members n S)
-  where
-    by-test : (b : Bool) → Distinct (members n S) → Distinct (cond b (n ∷ members n S) (members n S))
-    by-test true u = (λ m. omega (arith, of-members n S n m), u)
-    by-test false u = u
+use Rattle.carrying.proofs.Lists.{among-in, in-among, distinct-of-once, of-members, in-members, once-members}
 
 -- ---- the movers of a run
 
@@ -93,17 +61,17 @@ module _ (g : Graph) where
 
     pub numbers-below : (k : ℕ) → In k numbersOf → k < g .n
     numbers-below k m =
-        ⊎-elim (λ r. of-run (p .staged) (p .order) (p .goes) k r .0) (λ r. of-members (g .n) (p .staged) k r .0) (in-either (p .order) m)
+        ⊎-elim (λ r. of-run (p .staged) (p .order) (p .goes) k r .0) (λ r. of-members (g .n) (p .staged) k (among-in k (members (g .n) (p .staged)) r) .0) (in-either (p .order) m)
 
     pub numbers-all : (k : ℕ) → k < g .n → In k numbersOf
     numbers-all k q =
-        ⊎-elim (λ e. in-right (p .order) (in-members (g .n) (p .staged) k q e)) (λ m. in-left (members (g .n) (p .staged)) m)
+        ⊎-elim (λ e. in-right (p .order) (in-among k (members (g .n) (p .staged)) (in-members (g .n) (p .staged) k q e))) (λ m. in-left (members (g .n) (p .staged)) m)
         (of-away (p .staged) (p .order) k (p .everybody k q))
 
     pub numbers-once : Distinct numbersOf
     numbers-once =
-        distinct-append (p .order) (members (g .n) (p .staged)) (distinct-run (p .staged) (p .order) (p .goes)) (distinct-members (g .n) (p .staged))
-        (λ k m r. of-run (p .staged) (p .order) (p .goes) k m .1 (of-members (g .n) (p .staged) k r .1))
+        distinct-append (p .order) (members (g .n) (p .staged)) (distinct-run (p .staged) (p .order) (p .goes)) (distinct-of-once (members (g .n) (p .staged)) (once-members (g .n) (p .staged)))
+        (λ k m r. of-run (p .staged) (p .order) (p .goes) k m .1 (of-members (g .n) (p .staged) k (among-in k (members (g .n) (p .staged)) r) .1))
 
     pub numbers-length : length numbersOf ≡ g .n
     numbers-length =

@@ -3,11 +3,14 @@ use mathlib.Core.Path.{_≡_, refl, sym, ap, ap₂, _∙_}
 use mathlib.Core.Bool.{Bool, true, false, _||_, cond, or-true, or-assoc, or-comm, true≢false, false≢true}
 use mathlib.Core.Logic.{_⊎_, inl, inr, ⊎-elim}
 use mathlib.Core.List.{List, [], _∷_, _++_, map}
+use mathlib.Core.List.{List·Memᴰ as In, List·Memᴰ·head as at-head, List·Memᴰ·tail as in-tail}
+use mathlib.Core.List.{List·Memᴰ·not-nil as in-nothing, List·Memᴰ·cases-cons as head-or-tail}
 use Prim.Native.Nat.{ℕ, zero, suc, _+_, _<_}
 use native.Mathlib.Omega.{arith}
 use native.Mathlib.Decide.{ℕ-discrete}
 use borrow.Author.Tests.{eqb-true, eqb-false, eq-eqb, ne-eqb}
 use lib.Dec.{eqb}
+use Rattle.table.proofs.Distinct.{Distinct}
 use Rattle.staging.specs.Graph.{Group, joined, away, sumOver}
 use Rattle.staging.specs.Choice.{members}
 use Rattle.staging.proofs.Running.{not-both-ways}
@@ -141,6 +144,28 @@ once-map f (k ∷ ks) apart a = (
   among-map f k ks (λ j e. apart k (is-first k (among k ks)) j (is-other j k (among j ks) e)) ∙ a .0,
   once-map f ks (λ j e i d. apart j (is-other j k (among j ks) e) i (is-other i k (among i ks) d)) (a .1),
 )
+
+-- ---- the same as membership
+
+pub among-in : (k : ℕ) (xs : List ℕ) → In k xs → among k xs ≡ true
+among-in k [] m = absurd (in-nothing m)
+among-in k (x ∷ xs) m = by-case (head-or-tail m) (among-in k xs)
+  where
+    by-case : (k ≡ x) ⊎ In k xs → (In k xs → among k xs ≡ true) → among k (x ∷ xs) ≡ true
+    by-case (inl e) rest = rw (eq-eqb k x e)
+    by-case (inr r) rest = is-other k x (among k xs) (rest r)
+
+pub in-among : (k : ℕ) (xs : List ℕ) → among k xs ≡ true → In k xs
+in-among k [] e = absurd (false≢true e)
+in-among k (x ∷ xs) e = by-case (one-or-other k x (among k xs) e) (in-among k xs)
+  where
+    by-case : (k ≡ x) ⊎ (among k xs ≡ true) → (among k xs ≡ true → In k xs) → In k (x ∷ xs)
+    by-case (inl f) rest = at-head f
+    by-case (inr f) rest = in-tail (rest f)
+
+pub distinct-of-once : (xs : List ℕ) → Once xs → Distinct xs
+distinct-of-once [] o = tt
+distinct-of-once (x ∷ xs) o = (λ m. true≢false (sym (among-in x xs m) ∙ o .0), distinct-of-once xs (o .1))
 
 -- ---- the members of a group
 

@@ -6,7 +6,7 @@ use Rattle.staging.proofs.works.Statement.{statement}
 use Rattle.staging.proofs.works.Tie as tie
 
 all-requires : tie.Need-all-requires
-all-requires c κs = c .pre .few
+all-requires c κs = search needs
 
 all-gone-requires : tie.Need-all-gone-requires
 all-gone-requires c κs = c .before .pre
