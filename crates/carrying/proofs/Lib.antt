@@ -14,7 +14,7 @@ pub mod Lowest
 pub mod Spelling
 pub mod Workable
 -- what the functions need
-pub mod Leaves
+pub mod LeafNumbers
 pub mod Pushing
 pub mod Waiting
 pub mod Ordering

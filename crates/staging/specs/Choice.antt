@@ -1,5 +1,6 @@
 -- The plan that is chosen, as it is computed: groups by number, tried from the highest number down. `proofs/Best.antt` shows that it is the
 -- best of all plans.
+use mathlib.Core.Path.{_≡_}
 use mathlib.Core.Bool.{Bool, not, _&&_, cond}
 use mathlib.Core.List.{List, [], _∷_}
 use Prim.Native.Nat.{ℕ, zero, suc, _+_, _-_, _*_, _/_, _%_, _^_, _≤_, _<_}
@@ -7,6 +8,7 @@ use lib.Dec.{eqb, ltb}
 use lib.ListN.{getD}
 use Rattle.staging.specs.Graph.{Group, Graph, joined, away, sumOver}
 use Rattle.staging.specs.declared.Movers.{Movers}
+use Rattle.staging.specs.declared.Priced.{Priced}
 
 -- one more than the highest number below n that passes the test; 0 if none does
 abbrev pub highest : ℕ → (ℕ → Bool) → ℕ
@@ -77,3 +79,7 @@ graphOf m = record { n = m .n; waits = λ k j. has (getD (m .waits) k 0) j; page
 pub record Few (m : Movers) : Type 0 where
   pub few : m .n ≤ 7
   pub among-them : (k : ℕ) → k < m .n → getD (m .waits) k 0 < 2 ^ m .n
+
+-- the cost that a group is handed on with is its own
+abbrev pub Prices : Movers → Priced → Type 0
+Prices m p = p .cost ≡ costOf (graphOf m) (has (p .group))

@@ -6,7 +6,7 @@ ghost use Prim.Native.Nat.{_+_, _*_, _^_, _≤_, _<_};
 ghost use lib.Dec.{eqb};
 ghost use lib.Bits.{bitAnd, bitOr};
 ghost use Rattle.staging.specs.Graph.{joined, away};
-ghost use Rattle.staging.specs.Choice.{Few, graphOf, has as Spec·has, canGo?, nextOf, orderOf, works?, costOf, betterOf, chosenOf, everyone};
+ghost use Rattle.staging.specs.Choice.{Few, graphOf, has as Spec·has, canGo?, nextOf, orderOf, works?, costOf, betterOf, chosenOf, everyone, Prices};
 
 // The most movers that a call may have.
 pub const MOST: usize = 7;
@@ -27,7 +27,7 @@ pub fn has(group: u8, k: usize) -> bool
 }
 
 // The group of mover k alone.
-pub fn single(k: usize) -> u8
+fn single(k: usize) -> u8
     requires { ⌜ k < 8 ⌝ }
     ensures { λ r. ⌜ r ≡ 2 ^ k ⌝ }
 {
@@ -136,16 +136,24 @@ fn cost(movers: Movers, group: u8) -> u32
     sum
 }
 
+// A group, and what it costs to stage it.
+struct Priced {
+    group: u8,
+    cost: u32,
+}
+
 // The group, if it costs less than the best one so far and everybody else can go; else the best one.
-fn better(movers: Movers, group: u8, best: u8) -> u8
-    requires { ⌜ Few movers ⌝ }
-    ensures { λ r. ⌜ r ≡ betterOf (graphOf movers) group best ⌝ }
+fn better(movers: Movers, group: u8, best: Priced) -> Priced
+    requires { ⌜ Few movers × Prices movers best ⌝ }
+    ensures group { λ r. ⌜ r .group ≡ betterOf (graphOf movers) group (best .group) ⌝ }
+    ensures cost { λ r. ⌜ Prices movers r ⌝ }
 {
-    if cost(movers, best) <= cost(movers, group) {
+    let price = cost(movers, group);
+    if best.cost <= price {
         return best;
     }
     if works(movers, group) {
-        return group;
+        return Priced { group, cost: price };
     }
     best
 }
@@ -157,10 +165,13 @@ pub fn chosen(movers: Movers) -> u8
     ensures { λ r. ⌜ r ≡ chosenOf (graphOf movers) ⌝ }
 {
     let mut group = all(movers.n);
-    let mut best = group;
+    let mut best = Priced {
+        group,
+        cost: cost(movers, group),
+    };
     while 0 < group {
         group -= 1;
         best = better(movers, group, best);
     }
-    best
+    best.group
 }

@@ -8,33 +8,37 @@ use Rattle.staging.proofs.better.Statement.{statement}
 use Rattle.staging.proofs.better.Tie as tie
 
 cost-requires : tie.Need-cost-requires
-cost-requires c κs = search needs
-
-cost-requires-2 : tie.Need-cost-requires-2
-cost-requires-2 c κs = search needs
+cost-requires c κs = c .pre .0
 
 returns : tie.Need-returns
 returns c =
-    let a = c .before .before .before .args in
-    better-left (graphOf (a .movers)) (a .group) (a .best) (omega (arith, c .before .before .cost .ensures, c .before .cost2 .ensures, c .if1 .taken))
+    let priced = c .before .before in
+    let start = priced .before in
+    let a = start .args in
+    (better-left (graphOf (a .movers)) (a .group) (a .best .group) (omega (arith, start .pre .1, priced .cost .ensures, c .if1 .taken)), start .pre .1)
 
 works-requires : tie.Need-works-requires
-works-requires c κs = search needs
+works-requires c κs = c .before .before .before .pre .0
 
 returns-2 : tie.Need-returns-2
 returns-2 c =
-    let costs = c .before .before .before in
-    let a = costs .before .before .args in
-    better-taken (graphOf (a .movers)) (a .group) (a .best)
-    (omega (arith, costs .before .cost .ensures, costs .cost2 .ensures, c .before .before .if1 .left)) (sym (c .before .works .ensures) ∙ c .if2 .taken)
+    let priced = c .before .before .before .before in
+    let start = priced .before in
+    let a = start .args in (
+      better-taken (graphOf (a .movers)) (a .group) (a .best .group) (omega (arith, start .pre .1, priced .cost .ensures, c .before .before .if1 .left))
+          (sym (c .before .works .ensures) ∙ c .if2 .taken),
+      priced .cost .ensures,
+    )
 
 returns-3 : tie.Need-returns-3
 returns-3 c =
-    let costs = c .before .before .before in
-    let a = costs .before .before .args in
-    better-fails (graphOf (a .movers)) (a .group) (a .best)
-    (omega (arith, costs .before .cost .ensures, costs .cost2 .ensures, c .before .before .if1 .left)) (sym (c .before .works .ensures) ∙ c .if2 .left)
+    let priced = c .before .before .before .before in
+    let start = priced .before in
+    let a = start .args in (
+      better-fails (graphOf (a .movers)) (a .group) (a .best .group) (omega (arith, start .pre .1, priced .cost .ensures, c .before .before .if1 .left))
+          (sym (c .before .works .ensures) ∙ c .if2 .left),
+      start .pre .1,
+    )
 
 pub better-spec : {M : Type 1} → statement M
-better-spec =
-    tie.close (tie.spec cost-requires cost-requires-2 returns works-requires returns-2 returns-3)
+better-spec = tie.close (tie.spec cost-requires returns works-requires returns-2 returns-3)
