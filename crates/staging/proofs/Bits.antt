@@ -2,12 +2,12 @@
 use mathlib.Core.Path.{_≡_, refl, sym, ap, ap₂, _∙_}
 use mathlib.Core.Bool.{Bool, true, false, not, _&&_, _||_, cond, true≢false, false≢true}
 use Prim.Native.Nat.{ℕ, zero, suc, _+_, _-_, _*_, _/_, _%_, _^_, _≤_, _<_, min, max}
-use native.Mathlib.Nat.{pow-suc, div-eq-of-lt, min-le-left, min-zero, zero-min, max-le, max-zero}
-use native.Mathlib.Decide.{ℕ-discrete}
+use native.Mathlib.Nat.{pow-suc, div-eq-of-lt, min-le-left, zero-min, max-le, max-zero}
+use native.Mathlib.Decide.{ℕ-discrete, decLt}
 use native.Mathlib.Numerals.{one-add}
 use native.Mathlib.Omega.{arith}
 use borrow.Author.Tests.{eqb-true, eqb-false, eq-eqb, ne-eqb}
-use lib.Bits.{bitAnd, bitOr, and-step, or-step, or-zero-r}
+use lib.Bits.{bitAnd, bitOr, and-step, or-step, or-zero-r, and-le-l}
 use lib.Dec.{eqb, eqb·suc-zero, eqb·suc-suc}
 use lib.Pow.{shr-shr, pow-pos, pow-mono}
 use Rattle.staging.specs.Graph.{Group, joined}
@@ -26,6 +26,16 @@ pub has-above : (n s k : ℕ) → s < 2 ^ n → n ≤ k → has s k ≡ false
 has-above n s k below q =
     let none : s / 2 ^ k ≡ 0 = div-eq-of-lt (omega (arith, below, pow-mono q)) in
     ap (λ (x : ℕ). eqb (x % 2) 1) none
+
+pub has-below : (n s k : ℕ) → s < 2 ^ n → has s k ≡ true → k < n
+has-below n s k below e =
+    elim (decLt k n) [
+      | yes q ↦ q
+      | no q ↦ absurd (true≢false (sym e ∙ has-above n s k below (omega arith)))
+    ]
+
+pub has-zero : (k : ℕ) → has 0 k ≡ false
+has-zero k = has-above 0 0 k (omega arith) (omega arith)
 
 -- the last digit as a number
 last-digit : (s : ℕ) → cond (has s 0) 1 0 ≡ s % 2
@@ -97,49 +107,27 @@ and-half a b = omega (arith, and-step a b, min-le-left (a % 2) (b % 2))
 and-last : (a b : ℕ) → bitAnd a b % 2 ≡ min (a % 2) (b % 2)
 and-last a b = omega (arith, and-step a b, min-le-left (a % 2) (b % 2))
 
-and-within : (n w a : ℕ) → w < 2 ^ n → ((j : ℕ) → j < n → has w j ≡ true → has a j ≡ true) → bitAnd w a ≡ w
-and-within zero w a below sub = let none : w ≡ 0 = omega arith in rw none
-and-within (suc n) w a below sub =
-    let halves : bitAnd (w / 2) (a / 2) ≡ w / 2 =
-    and-within n (w / 2) (a / 2) (omega (arith, below, pow-suc 2 n))
-    (λ j q e. sym (has-suc a j) ∙ sub (suc j) (omega arith) (has-suc w j ∙ e)) in
-    omega (arith, and-step w a, halves, last (ℕ-discrete (w % 2) 0))
+min-digits : (x y : ℕ) → x < 2 → y < 2 → eqb (min x y) 1 ≡ (eqb x 1 && eqb y 1)
+min-digits x y p q = by-digits (ℕ-discrete x 0) (ℕ-discrete y 0)
   where
-    last : Dec (w % 2 ≡ 0) → min (w % 2) (a % 2) ≡ w % 2
-    last (yes e) = rw e (zero-min (a % 2))
-    last (no e) =
-        let one : w % 2 ≡ 1 = omega arith in
-        rw (one, one-of-digit a (sub 0 (omega arith) (digit-of-one w one)))
+    by-digits : Dec (x ≡ 0) → Dec (y ≡ 0) → eqb (min x y) 1 ≡ (eqb x 1 && eqb y 1)
+    by-digits (yes e) d = rw (e, zero-min y)
+    by-digits (no e) (yes f) = let one : x ≡ 1 = omega arith in rw (one, f)
+    by-digits (no e) (no f) =
+        let one : x ≡ 1 = omega arith in
+        let other : y ≡ 1 = omega arith in
+        rw (one, other)
 
-within-and : (w a k : ℕ) → bitAnd w a ≡ w → has w k ≡ true → has a k ≡ true
-within-and w a zero e q =
-    elim (ℕ-discrete (a % 2) 0) [
-      | yes f ↦ absurd (omega (arith, one-of-digit w q, ap (λ (x : ℕ). x % 2) e, and-last w a, ap (min (w % 2)) f, min-zero (w % 2)))
-      | no f ↦ digit-of-one a (omega arith)
-    ]
-within-and w a (suc k) e q =
-    has-suc a k ∙ within-and (w / 2) (a / 2) k (sym (and-half w a) ∙ ap (λ (x : ℕ). x / 2) e) (sym (has-suc w k) ∙ q)
-
--- the test of a group within another looks for a member that is not in the other
-pub within-is : (n w a : ℕ) → w < 2 ^ n → eqb (bitAnd w a) w ≡ eqb (highest n (λ j. has w j && not (has a j))) 0
-within-is n w a below = by-search (highest n (λ j. has w j && not (has a j))) refl
-  where
-    in-other : (x y : Bool) → (x && not y) ≡ false → x ≡ true → y ≡ true
-    in-other true true e q = refl
-    in-other true false e q = absurd (true≢false e)
-    in-other false y e q = absurd (false≢true q)
-
-    not-in-other : (x y : Bool) → (x && not y) ≡ true → (x ≡ true) × (y ≡ false)
-    not-in-other true true e = absurd (false≢true e)
-    not-in-other true false e = (refl, refl)
-    not-in-other false y e = absurd (false≢true e)
-
-    by-search : (m : ℕ) → highest n (λ j. has w j && not (has a j)) ≡ m → eqb (bitAnd w a) w ≡ eqb m 0
-    by-search zero e =
-        eq-eqb (bitAnd w a) w (and-within n w a below (λ j q. in-other (has w j) (has a j) (none-of-zero n (λ j. has w j && not (has a j)) e j q)))
-    by-search (suc k) e =
-        let r = not-in-other (has w k) (has a k) (highest-of-suc n (λ j. has w j && not (has a j)) k e .passes) in
-        ne-eqb (bitAnd w a) w (λ f. true≢false (sym (within-and w a k f (r .0)) ∙ r .1)) ∙ sym (eqb·suc-zero k)
+-- the members of both
+pub has-both : (w a k : ℕ) → has (bitAnd w a) k ≡ (has w k && has a k)
+has-both w a zero =
+    let own : (x : ℕ) → x / 1 % 2 ≡ x % 2 = λ x. omega arith in
+    let last : bitAnd w a / 1 % 2 ≡ min (w / 1 % 2) (a / 1 % 2) = own (bitAnd w a) ∙ and-last w a ∙ sym (ap₂ min (own w) (own a)) in
+    ap (λ (d : ℕ). eqb d 1) last ∙ min-digits (w / 1 % 2) (a / 1 % 2) (omega arith) (omega arith)
+has-both w a (suc k) =
+    half-alike (bitAnd w a) (bitAnd (w / 2) (a / 2)) k (and-half w a)
+    ∙ has-both (w / 2) (a / 2) k
+    ∙ ap₂ _&&_ (sym (has-suc w k)) (sym (has-suc a k))
 
 -- ---- the number of a group
 
@@ -165,6 +153,18 @@ has-number (suc n) S zero q = by-test (S 0)
 has-number (suc n) S (suc k) q =
     let half : numberOf (suc n) S / 2 ≡ numberOf n (λ k. S (suc k)) = omega (arith, cond-le-one (S 0)) in
     half-alike (numberOf (suc n) S) (numberOf n (λ k. S (suc k))) k half ∙ has-number n (λ k. S (suc k)) k (omega arith)
+
+-- a group of movers is that of its number
+pub group-of-number : (n : ℕ) (S : Group) → ((k : ℕ) → S k ≡ true → k < n) → has (numberOf n S) ≡ S
+group-of-number n S movers = λ i k. alike k (decLt k n) i
+  where
+    not-passed : (x : Bool) → ¬ (x ≡ true) → x ≡ false
+    not-passed true p = absurd (p refl)
+    not-passed false p = refl
+
+    alike : (k : ℕ) → Dec (k < n) → has (numberOf n S) k ≡ S k
+    alike k (yes q) = has-number n S k q
+    alike k (no q) = has-above n (numberOf n S) k (number-below n S) (omega arith) ∙ sym (not-passed (S k) (λ e. q (movers k e)))
 
 -- the number of the group that a number stands for
 pub number-of-has : (n s : ℕ) → s < 2 ^ n → numberOf n (has s) ≡ s
@@ -194,3 +194,43 @@ number-greater (suc n) S S′ zero q e f alike =
 number-greater (suc n) S S′ (suc k) q e f alike =
     let rest = number-greater n (λ k. S (suc k)) (λ k. S′ (suc k)) k (omega arith) e f (λ j r s. alike (suc j) (omega arith) (omega arith)) in
     omega (arith, rest, cond-le-one (S 0), cond-le-one (S′ 0))
+
+-- ---- tests of two groups
+
+pub same-digits : (n x y : ℕ) → x < 2 ^ n → y < 2 ^ n → ((k : ℕ) → k < n → has x k ≡ has y k) → x ≡ y
+same-digits n x y p q same = sym (number-of-has n x p) ∙ number-cong n (has x) (has y) same ∙ number-of-has n y q
+
+-- two numbers are equal if no digit is found in which they differ
+equal-is : (n x y : ℕ) (bad : ℕ → Bool) → x < 2 ^ n → y < 2 ^ n → ((k : ℕ) → bad k ≡ false → has x k ≡ has y k)
+    → ((k : ℕ) → bad k ≡ true → ¬ (has x k ≡ has y k)) → eqb x y ≡ eqb (highest n bad) 0
+equal-is n x y bad p q good differ = by-search (highest n bad) refl
+  where
+    by-search : (m : ℕ) → highest n bad ≡ m → eqb x y ≡ eqb m 0
+    by-search zero e = eq-eqb x y (same-digits n x y p q (λ k r. good k (none-of-zero n bad e k r)))
+    by-search (suc k) e =
+        ne-eqb x y (λ f. differ k (highest-of-suc n bad k e .passes) (ap (λ (z : ℕ). has z k) f)) ∙ sym (eqb·suc-zero k)
+
+both-below : (n w a : ℕ) → w < 2 ^ n → bitAnd w a < 2 ^ n
+both-below n w a p = omega (arith, p, and-le-l w a)
+
+-- a group within another looks for a member that is not in the other
+pub within-is : (n w a : ℕ) → w < 2 ^ n → eqb (bitAnd w a) w ≡ eqb (highest n (λ j. has w j && not (has a j))) 0
+within-is n w a p =
+    equal-is n (bitAnd w a) w (λ j. has w j && not (has a j)) (both-below n w a p) p
+    (λ k e. has-both w a k ∙ good (has w k) (has a k) e) (λ k e f. differ (has w k) (has a k) e (sym (has-both w a k) ∙ f))
+  where
+    good : (x y : Bool) → (x && not y) ≡ false → (x && y) ≡ x
+    good true true e = refl
+    good true false e = absurd (true≢false e)
+    good false y e = refl
+
+    differ : (x y : Bool) → (x && not y) ≡ true → ¬ ((x && y) ≡ x)
+    differ true true e f = false≢true e
+    differ true false e f = false≢true f
+    differ false y e f = false≢true e
+
+-- a group apart from another looks for a member that is in both
+pub apart-is : (n w a : ℕ) → w < 2 ^ n → eqb (bitAnd w a) 0 ≡ eqb (highest n (λ j. has w j && has a j)) 0
+apart-is n w a p =
+    equal-is n (bitAnd w a) 0 (λ j. has w j && has a j) (both-below n w a p) (pow-pos n)
+    (λ k e. has-both w a k ∙ e ∙ sym (has-zero k)) (λ k e f. true≢false (sym e ∙ sym (has-both w a k) ∙ f ∙ has-zero k))

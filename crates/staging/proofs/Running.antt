@@ -7,9 +7,9 @@ use native.Mathlib.Omega.{arith}
 use borrow.Author.Tests.{eqb-true, eq-eqb}
 use lib.Dec.{eqb}
 use Rattle.staging.specs.Graph.{Group, Graph, joined, away, CanGo, Run, nobody, next, Plan, sumOver, LowestFirst}
-use Rattle.staging.specs.Choice.{highest, canGo?, nextOf, ifAny, orderFrom, orderOf, works?}
+use Rattle.staging.specs.Choice.{highest, canGo?, nextOf, ifAny, orderFrom, orderOf, works?, freeOf}
 use Rattle.staging.proofs.Highest.{highest-none, none-of-zero, IsHighest, highest-of-suc}
-use Rattle.staging.proofs.Sums.{all-of-count, sum-joined}
+use Rattle.staging.proofs.Sums.{without, all-of-count, sum-joined}
 
 -- ---- Boolean tests
 
@@ -145,16 +145,24 @@ module _ (g : Graph) where
       inside false f =
           absurd (true≢false (sym (can-go-when g B k f (λ i s w. within i (can i s w))) ∙ nobody-next B stuck k q))
 
+  -- those who are away in the end
+  abbrev last : Group → Group
+  last S = away S (orderFrom (g .n) g S)
+
+  stuck-last : (S : Group) → nextOf g (last S) ≡ 0
+  stuck-last S = stuck-after (g .n) S (omega arith)
+
+  -- a group works if those whom a plan stages are away in the end
+  works-within : (p : Plan g) (S : Group) → ((k : ℕ) → p .staged k ≡ true → last S k ≡ true) → works? g S ≡ true
+  unfolding works? orderOf
+  works-within p S within =
+      eq-eqb _ 0
+      (highest-none (g .n) (λ k. not (last S k))
+      (λ k q. rw (run-stays (last S) (stuck-last S) (p .staged) (p .order) (p .goes) within k (p .everybody k q))))
+
   -- any plan's staged group works, and a group that works is that of a plan
   pub works-of-plan : (p : Plan g) → works? g (p .staged) ≡ true
-  unfolding works? orderOf
-  works-of-plan p =
-      let S = p .staged in
-      let B = away S (orderFrom (g .n) g S) in
-      let stuck = stuck-after (g .n) S (omega arith) in
-      eq-eqb _ 0
-      (highest-none (g .n) (λ k. not (B k))
-      (λ k q. rw (run-stays B stuck S (p .order) (p .goes) (away-keeps S (orderFrom (g .n) g S)) k (p .everybody k q))))
+  works-of-plan p = works-within p (p .staged) (away-keeps (p .staged) (orderFrom (g .n) g (p .staged)))
 
   -- so does the group of everybody
   pub works-of-all : (S : Group) → ((k : ℕ) → k < g .n → S k ≡ true) → works? g S ≡ true
@@ -180,3 +188,20 @@ module _ (g : Graph) where
     goes = order-runs (g .n) S;
     everybody = all-away S e;
   }
+
+  -- ---- those who need not be staged
+
+  -- whoever can go while nobody is staged is away in the end, whoever is staged
+  free-last : (S : Group) (k : ℕ) → freeOf g k ≡ true → last S k ≡ true
+  unfolding freeOf orderOf
+  free-last S = run-stays (last S) (stuck-last S) (λ k. false) (orderFrom (g .n) g (λ k. false)) (order-runs (g .n) (λ k. false)) (λ j e. absurd (false≢true e))
+
+  -- so a group works without them
+  pub works-without : (S : Group) → ((k : ℕ) → S k ≡ true → k < g .n) → works? g S ≡ true → works? g (without S (freeOf g)) ≡ true
+  unfolding plan-of
+  works-without S movers e = works-within (plan-of S movers e) (without S (freeOf g)) (λ k in-S. by-test k (freeOf g k) refl in-S)
+    where
+      by-test : (k : ℕ) (b : Bool) → freeOf g k ≡ b → S k ≡ true → last (without S (freeOf g)) k ≡ true
+      by-test k true f in-S = free-last (without S (freeOf g)) k f
+      by-test k false f in-S =
+          away-keeps (without S (freeOf g)) (orderFrom (g .n) g (without S (freeOf g))) k (rw (in-S, f))

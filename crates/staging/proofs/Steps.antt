@@ -2,7 +2,7 @@
 use mathlib.Core.Path.{_≡_, refl, sym, ap, _∙_}
 use mathlib.Core.Bool.{Bool, true, false, not, _&&_, cond}
 use mathlib.Core.List.{_∷_}
-use Prim.Native.Nat.{ℕ, zero, suc, _+_, _-_, _*_, _≤_, _<_}
+use Prim.Native.Nat.{ℕ, zero, suc, _+_, _-_, _*_, _^_, _≤_, _<_}
 use native.Mathlib.Numerals.{add-one}
 use native.Mathlib.Omega.{arith}
 use borrow.Author.Tests.{lt-ltb, le-ltb}
@@ -11,9 +11,9 @@ use lib.Dec.{eqb}
 use lib.ListN.{getD}
 use lib.Pow.{pow-pos}
 use Rattle.staging.specs.Graph.{Group, Graph, joined, away, sumOver}
-use Rattle.staging.specs.Choice.{highest, canGo?, nextOf, ifAny, orderFrom, orderOf, works?, has, costOf, betterOf, bestBelow, everyone, graphOf, Few}
+use Rattle.staging.specs.Choice.{highest, canGo?, nextOf, ifAny, orderFrom, orderOf, works?, has, costOf, freeOf, apart?, cheaperOf, betterOf, bestBelow, everyone, graphOf, Few}
 use Rattle.staging.specs.declared.Movers.{Movers}
-use Rattle.staging.proofs.Bits.{within-is, everyone-has}
+use Rattle.staging.proofs.Bits.{within-is, apart-is, has-zero, everyone-has}
 
 -- ---- who can go
 
@@ -97,17 +97,34 @@ cost-of-all m S k sum e f = f ∙ ap (λ (i : ℕ). sumOver i S (λ j. getD (m .
 
 -- ---- the search
 
-pub better-left : (g : Graph) (s b : ℕ) → costOf g (has b) ≤ costOf g (has s) → b ≡ betterOf g s b
-unfolding betterOf
+pub better-left : (g : Graph) (s b : ℕ) → costOf g (has b) ≤ costOf g (has s) → b ≡ cheaperOf g s b
+unfolding cheaperOf
 better-left g s b q = rw (le-ltb (costOf g (has s)) (costOf g (has b)) q)
 
-pub better-taken : (g : Graph) (s b : ℕ) → costOf g (has s) < costOf g (has b) → works? g (has s) ≡ true → s ≡ betterOf g s b
-unfolding betterOf
+pub better-taken : (g : Graph) (s b : ℕ) → costOf g (has s) < costOf g (has b) → works? g (has s) ≡ true → s ≡ cheaperOf g s b
+unfolding cheaperOf
 better-taken g s b q e = rw (lt-ltb (costOf g (has s)) (costOf g (has b)) q, e)
 
-pub better-fails : (g : Graph) (s b : ℕ) → costOf g (has s) < costOf g (has b) → works? g (has s) ≡ false → b ≡ betterOf g s b
-unfolding betterOf
+pub better-fails : (g : Graph) (s b : ℕ) → costOf g (has s) < costOf g (has b) → works? g (has s) ≡ false → b ≡ cheaperOf g s b
+unfolding cheaperOf
 better-fails g s b q e = rw (lt-ltb (costOf g (has s)) (costOf g (has b)) q, e)
+
+-- the test of two numbers is that of the group
+apart-by-groups : (g : Graph) (s f : ℕ) → s < 2 ^ g .n → has f ≡ freeOf g → eqb (bitAnd s f) 0 ≡ apart? g s
+unfolding apart?
+apart-by-groups g s f below e = apart-is (g .n) s f below ∙ ap (λ (A : Group). eqb (highest (g .n) (λ k. has s k && A k)) 0) e
+
+pub better-by-groups : (g : Graph) (s f b : ℕ) (t : Bool) → s < 2 ^ g .n → has f ≡ freeOf g → eqb (bitAnd s f) 0 ≡ t
+    → cond t (cheaperOf g s b) b ≡ betterOf g s b
+unfolding betterOf
+better-by-groups g s f b t below e test = ap (λ (x : Bool). cond x (cheaperOf g s b) b) (sym test ∙ apart-by-groups g s f below e)
+
+-- nobody is in the group 0
+pub free-by-groups : (m : Movers) (r : ℕ) → has r ≡ away (has 0) (orderOf (graphOf m) (has 0)) → has r ≡ freeOf (graphOf m)
+unfolding freeOf
+free-by-groups m r e =
+    let nobody : has 0 ≡ (λ k. false) = λ i k. has-zero k i in
+    e ∙ ap (λ (A : Group). away A (orderOf (graphOf m) A)) nobody
 
 pub best-goes-on : (g : Graph) (s b r : ℕ) → 0 < s → r ≡ betterOf g (s - 1) b → bestBelow g (s - 1) r ≡ bestBelow g s b
 best-goes-on g zero b r q e = absurd (omega arith)

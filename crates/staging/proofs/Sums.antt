@@ -1,6 +1,6 @@
 -- Sums over a group.
 use mathlib.Core.Path.{_≡_, refl, sym, ap, _∙_}
-use mathlib.Core.Bool.{Bool, true, false, cond}
+use mathlib.Core.Bool.{Bool, true, false, not, _&&_, cond}
 use Prim.Native.Nat.{ℕ, zero, suc, _+_, _*_, _≤_, _<_}
 use native.Mathlib.Omega.{arith}
 use native.Mathlib.Decide.{ℕ-discrete}
@@ -67,3 +67,31 @@ sum-joined (suc n) A k f q e =
     below s rest =
         let top : cond (joined A k n) (f n) 0 ≡ cond (A n) (f n) 0 = ap (λ (b : Bool). cond b (f n) 0) (joined-other A k n (λ t. s (sym t))) in
         omega (arith, top, rest)
+
+-- ---- a group without some
+
+abbrev pub without : Group → Group → Group
+without S F k = S k && not (F k)
+
+-- what it costs less
+pub sum-without : (n : ℕ) (S F : Group) (f : ℕ → ℕ) → sumOver n (without S F) f + sumOver n (λ k. S k && F k) f ≡ sumOver n S f
+sum-without zero S F f = refl
+sum-without (suc n) S F f = omega (arith, one (S n) (F n), sum-without n S F f)
+  where
+    one : (x y : Bool) → cond (x && not y) (f n) 0 + cond (x && y) (f n) 0 ≡ cond x (f n) 0
+    one true true = omega arith
+    one true false = omega arith
+    one false y = refl
+
+-- it costs nothing less only if none of them was in it
+pub none-of-sum : (n : ℕ) (S : Group) (f : ℕ → ℕ) → ((k : ℕ) → 0 < f k) → sumOver n S f ≡ 0 → (k : ℕ) → k < n → S k ≡ false
+none-of-sum zero S f above e k q = absurd (omega arith)
+none-of-sum (suc n) S f above e k q = by-test (S n) refl e (λ r. none-of-sum n S f above r k)
+  where
+    by-test : (b : Bool) → S n ≡ b → cond b (f n) 0 + sumOver n S f ≡ 0 → (sumOver n S f ≡ 0 → k < n → S k ≡ false) → S k ≡ false
+    by-test true r s rest = absurd (omega (arith, above n))
+    by-test false r s rest =
+        elim (ℕ-discrete k n) [
+          | yes t ↦ ap S t ∙ r
+          | no t ↦ rest (omega (arith, s)) (omega arith)
+        ]

@@ -1,7 +1,7 @@
 -- The plan that is chosen, as it is computed: groups by number, tried from the highest number down. `proofs/Best.antt` shows that it is the
 -- best of all plans.
 use mathlib.Core.Path.{_≡_}
-use mathlib.Core.Bool.{Bool, not, _&&_, cond}
+use mathlib.Core.Bool.{Bool, false, not, _&&_, cond}
 use mathlib.Core.List.{List, [], _∷_}
 use Prim.Native.Nat.{ℕ, zero, suc, _+_, _-_, _*_, _/_, _%_, _^_, _≤_, _<_}
 use lib.Dec.{eqb, ltb}
@@ -49,9 +49,21 @@ costOf g S = sumOver (g .n) S (λ k. g .pages k * 8 + 1)
 abbrev pub has : ℕ → ℕ → Bool
 has s k = eqb (s / 2 ^ k % 2) 1
 
+-- those who can go even if nobody is staged
+unfoldable pub freeOf : Graph → Group
+freeOf g = away (λ k. false) (orderOf g (λ k. false))
+
+-- nobody of them is in the group s: they need not be staged
+unfoldable pub apart? : Graph → ℕ → Bool
+apart? g s = eqb (highest (g .n) (λ k. has s k && freeOf g k)) 0
+
 -- s, if it costs less than b and everybody else can go; else b
+unfoldable pub cheaperOf : Graph → ℕ → ℕ → ℕ
+cheaperOf g s b = cond (ltb (costOf g (has s)) (costOf g (has b)) && works? g (has s)) s b
+
+-- the same, where s has nobody who need not be staged
 unfoldable pub betterOf : Graph → ℕ → ℕ → ℕ
-betterOf g s b = cond (ltb (costOf g (has s)) (costOf g (has b)) && works? g (has s)) s b
+betterOf g s b = cond (apart? g s) (cheaperOf g s b) b
 
 -- the best of b and the groups numbered below s, from the highest number down
 abbrev pub bestBelow : Graph → ℕ → ℕ → ℕ

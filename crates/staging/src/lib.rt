@@ -6,7 +6,7 @@ ghost use Prim.Native.Nat.{_+_, _*_, _^_, _≤_, _<_};
 ghost use lib.Dec.{eqb};
 ghost use lib.Bits.{bitAnd, bitOr};
 ghost use Rattle.staging.specs.Graph.{joined, away};
-ghost use Rattle.staging.specs.Choice.{Few, graphOf, has as Spec·has, canGo?, nextOf, orderOf, works?, costOf, betterOf, chosenOf, everyone, Prices};
+ghost use Rattle.staging.specs.Choice.{Few, graphOf, has as Spec·has, canGo?, nextOf, orderOf, works?, costOf, freeOf, cheaperOf, betterOf, chosenOf, everyone, Prices};
 
 // The most movers that a call may have.
 pub const MOST: usize = 7;
@@ -56,6 +56,13 @@ fn within(group: u8, other: u8) -> bool
     ensures { λ r. ⌜ r ≡ eqb (bitAnd group other) group ⌝ }
 {
     group & other == group
+}
+
+// Whether two groups have no member in common.
+fn apart(group: u8, other: u8) -> bool
+    ensures { λ r. ⌜ r ≡ eqb (bitAnd group other) 0 ⌝ }
+{
+    group & other == 0
 }
 
 // Whether mover k is still there and waits for nobody else who is.
@@ -143,9 +150,9 @@ struct Priced {
 }
 
 // The group, if it costs less than the best one so far and everybody else can go; else the best one.
-fn better(movers: Movers, group: u8, best: Priced) -> Priced
+fn cheaper(movers: Movers, group: u8, best: Priced) -> Priced
     requires { ⌜ Few movers × Prices movers best ⌝ }
-    ensures group { λ r. ⌜ r .group ≡ betterOf (graphOf movers) group (best .group) ⌝ }
+    ensures group { λ r. ⌜ r .group ≡ cheaperOf (graphOf movers) group (best .group) ⌝ }
     ensures cost { λ r. ⌜ Prices movers r ⌝ }
 {
     let price = cost(movers, group);
@@ -158,12 +165,25 @@ fn better(movers: Movers, group: u8, best: Priced) -> Priced
     best
 }
 
+// The same, but a group with somebody who need not be staged, since it can go anyhow, is not looked at further.
+fn better(movers: Movers, free: u8, group: u8, best: Priced) -> Priced
+    requires { ⌜ Few movers × Prices movers best × (Spec·has free ≡ freeOf (graphOf movers)) × (group < 2 ^ movers .n) ⌝ }
+    ensures group { λ r. ⌜ r .group ≡ betterOf (graphOf movers) group (best .group) ⌝ }
+    ensures cost { λ r. ⌜ Prices movers r ⌝ }
+{
+    if apart(group, free) {
+        return cheaper(movers, group, best);
+    }
+    best
+}
+
 // The group to be staged: of those without which everybody else can go, the one with the fewest pages, then the fewest tenants, then the first
 // list of ascending tenant numbers, which is the highest number.
 pub fn chosen(movers: Movers) -> u8
     requires { ⌜ Few movers ⌝ }
     ensures { λ r. ⌜ r ≡ chosenOf (graphOf movers) ⌝ }
 {
+    let free = all_gone(movers, 0);
     let mut group = all(movers.n);
     let mut best = Priced {
         group,
@@ -171,7 +191,7 @@ pub fn chosen(movers: Movers) -> u8
     };
     while 0 < group {
         group -= 1;
-        best = better(movers, group, best);
+        best = better(movers, free, group, best);
     }
     best.group
 }

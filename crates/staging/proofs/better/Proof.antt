@@ -1,44 +1,32 @@
--- `better` meets its contract: each answer by the tests that led to it.
+-- `better` meets its contract.
 use mathlib.Core.Path.{sym, _∙_}
-use native.Mathlib.Omega.{arith}
 use borrow.Author.Needs.{needs}
 use Rattle.staging.specs.Choice.{graphOf}
-use Rattle.staging.proofs.Steps.{better-left, better-taken, better-fails}
+use Rattle.staging.proofs.Steps.{better-by-groups}
 use Rattle.staging.proofs.better.Statement.{statement}
 use Rattle.staging.proofs.better.Tie as tie
 
-cost-requires : tie.Need-cost-requires
-cost-requires c κs = c .pre .0
+apart-requires : tie.Need-apart-requires
+apart-requires c κs = search needs
+
+cheaper-requires : tie.Need-cheaper-requires
+cheaper-requires c κs = let pre = c .before .before .pre in (pre .0, pre .1)
 
 returns : tie.Need-returns
 returns c =
-    let priced = c .before .before in
-    let start = priced .before in
+    let start = c .before .before .before in
     let a = start .args in
-    (better-left (graphOf (a .movers)) (a .group) (a .best .group) (omega (arith, start .pre .1, priced .cost .ensures, c .if1 .taken)), start .pre .1)
-
-works-requires : tie.Need-works-requires
-works-requires c κs = c .before .before .before .pre .0
+    let test = sym (c .before .before .apart .ensures) ∙ c .before .if1 .taken in (
+      c .cheaper .ensures .0 ∙ better-by-groups (graphOf (a .movers)) (a .group) (a .free) (a .best .group) _ (start .pre .3) (start .pre .2) test,
+      c .cheaper .ensures .1,
+    )
 
 returns-2 : tie.Need-returns-2
 returns-2 c =
-    let priced = c .before .before .before .before in
-    let start = priced .before in
-    let a = start .args in (
-      better-taken (graphOf (a .movers)) (a .group) (a .best .group) (omega (arith, start .pre .1, priced .cost .ensures, c .before .before .if1 .left))
-          (sym (c .before .works .ensures) ∙ c .if2 .taken),
-      priced .cost .ensures,
-    )
-
-returns-3 : tie.Need-returns-3
-returns-3 c =
-    let priced = c .before .before .before .before in
-    let start = priced .before in
-    let a = start .args in (
-      better-fails (graphOf (a .movers)) (a .group) (a .best .group) (omega (arith, start .pre .1, priced .cost .ensures, c .before .before .if1 .left))
-          (sym (c .before .works .ensures) ∙ c .if2 .left),
-      start .pre .1,
-    )
+    let start = c .before .before in
+    let a = start .args in
+    let test = sym (c .before .apart .ensures) ∙ c .if1 .left in
+    (better-by-groups (graphOf (a .movers)) (a .group) (a .free) (a .best .group) _ (start .pre .3) (start .pre .2) test, start .pre .1)
 
 pub better-spec : {M : Type 1} → statement M
-better-spec = tie.close (tie.spec cost-requires returns works-requires returns-2 returns-3)
+better-spec = tie.close (tie.spec apart-requires cheaper-requires returns returns-2)
