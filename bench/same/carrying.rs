@@ -52,14 +52,16 @@ fn meet(one: u16, other: u16) -> bool {
     lower >> (lower.ilog2() - upper.ilog2()) == upper
 }
 
-/// The set to stage: with the fewest pages, then the fewest tenants, then the lowest numbers, which come first here.
+/// The set to stage: with the fewest pages, then the fewest tenants, then the lowest numbers, which come first here. Whoever
+/// can go while nobody is staged need not be staged.
 fn best_set(moves: &[Move], waits: &Waits) -> u8 {
     let all = all(moves);
+    let stuck = left_lying(waits, all);
     let mut best = all;
     let mut least = cost(moves, all);
-    for set in (0..all).rev() {
+    for set in (0..all).rev().filter(|set| set & !stuck == 0) {
         let cost = cost(moves, set);
-        if cost < least && all_can_go(waits, all & !set) {
+        if cost < least && left_lying(waits, all & !set) == 0 {
             best = set;
             least = cost;
         }
@@ -73,12 +75,12 @@ fn cost(moves: &[Move], set: u8) -> u32 {
     chosen.map(|(_, step)| 8 * (0x10000 >> step.from.ilog2()) + 1).sum()
 }
 
-/// Whether all of a set can go, one by one, once the others are out of the way.
-fn all_can_go(waits: &Waits, mut lying: u8) -> bool {
+/// Those of a set who cannot go, once the others are out of the way and all have gone, one by one, who can.
+fn left_lying(waits: &Waits, mut lying: u8) -> u8 {
     while let Some(next) = lowest_that_can_go(waits, lying) {
         lying &= !(1 << next);
     }
-    lying == 0
+    lying
 }
 
 /// The place of the lowest tenant of a set that waits for nobody in it.
