@@ -61,7 +61,8 @@ static void measure(const char *name, void (*call)(void), unsigned moved) {
     long used;
     got.moves = 0;
     used = used_by(call) - overhead;
-    printf("%s: %ld bytes of stack, %u moves\n", name, used, (unsigned)got.moves);
+    printf("%s: %ld bytes of stack\n", name, used);
+    if (got.moves != moved) printf("%s: %u moves and not %u\n", name, (unsigned)got.moves, moved);
     if (used <= MOST && got.moves == moved) {
         passed++;
     } else {

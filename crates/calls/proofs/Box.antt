@@ -64,7 +64,8 @@ module _ (h : ℕ) (T : List ℕ) (B : Book) (K : Kept h T B) where
       let q = t-in-table h T B K t l (g .tenant) (g .nothing) (g .in-height) (g .fits) in
       rw (g .outcome) (record {
         counted = moves-are-changes M T _ t (K .entries) (g .nothing) (λ u ne. refl) (granted-others M G t q (g .nothing));
-        few-if-grant = λ k a. listed-few h mostByGrant _ (grant-moves-few h T l (K .height) (K .in-order) (level-in-counts h T B K l (g .in-height)) M);
+        few-if-grant = λ k a. listed-few h mostByGrant _
+            (grant-moves-few h T l (K .height) (K .in-order) (level-in-counts h T B K l (g .in-height)) M);
         few-if-release = λ r. absurd (grants-do-not-release c l (g .asks) r);
       })
 

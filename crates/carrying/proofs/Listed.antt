@@ -61,16 +61,19 @@ module _ (g : Graph) where
 
     pub numbers-below : (k : ℕ) → In k numbersOf → k < g .n
     numbers-below k m =
-        ⊎-elim (λ r. of-run (p .staged) (p .order) (p .goes) k r .0) (λ r. of-members (g .n) (p .staged) k (among-in k (members (g .n) (p .staged)) r) .0) (in-either (p .order) m)
+        ⊎-elim (λ r. of-run (p .staged) (p .order) (p .goes) k r .0)
+        (λ r. of-members (g .n) (p .staged) k (among-in k (members (g .n) (p .staged)) r) .0) (in-either (p .order) m)
 
     pub numbers-all : (k : ℕ) → k < g .n → In k numbersOf
     numbers-all k q =
-        ⊎-elim (λ e. in-right (p .order) (in-among k (members (g .n) (p .staged)) (in-members (g .n) (p .staged) k q e))) (λ m. in-left (members (g .n) (p .staged)) m)
+        ⊎-elim (λ e. in-right (p .order) (in-among k (members (g .n) (p .staged)) (in-members (g .n) (p .staged) k q e)))
+        (λ m. in-left (members (g .n) (p .staged)) m)
         (of-away (p .staged) (p .order) k (p .everybody k q))
 
     pub numbers-once : Distinct numbersOf
     numbers-once =
-        distinct-append (p .order) (members (g .n) (p .staged)) (distinct-run (p .staged) (p .order) (p .goes)) (distinct-of-once (members (g .n) (p .staged)) (once-members (g .n) (p .staged)))
+        distinct-append (p .order) (members (g .n) (p .staged)) (distinct-run (p .staged) (p .order) (p .goes))
+        (distinct-of-once (members (g .n) (p .staged)) (once-members (g .n) (p .staged)))
         (λ k m r. of-run (p .staged) (p .order) (p .goes) k m .1 (of-members (g .n) (p .staged) k (among-in k (members (g .n) (p .staged)) r) .1))
 
     pub numbers-length : length numbersOf ≡ g .n

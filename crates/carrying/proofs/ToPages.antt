@@ -174,7 +174,8 @@ module _ {h t : ℕ} {T T′ : List ℕ} {ms : List Move} (M : Moving h t T T′
 
     staged-out : (u : ℕ) → among u staged-ones ≡ true → (gone u ≡ 0) × (0 < nodeAt T′ u)
     staged-out u e =
-        let not-going : among u direct-ones ≡ false = not-both-ways (among u direct-ones) (λ f. true≢false (sym e ∙ once-apart direct-ones staged-ones each-once u f)) in
+        let not-going : among u direct-ones ≡ false =
+        not-both-ways (among u direct-ones) (λ f. true≢false (sym e ∙ once-apart direct-ones staged-ones each-once u f)) in
         let r = from-map (tenantAt ms) u ss e in (
           lies-as-before T′ lifted direct-ones u not-going ∙ ap (λ (b : Bool). cond b 0 (nodeAt T u)) (is-other u t (among u staged-ones) e),
           subst (λ (v : ℕ). 0 < nodeAt T′ v) (r .2) (has-new M (r .0) (ss-below (r .0) (r .1))),
@@ -188,14 +189,16 @@ module _ {h t : ℕ} {T T′ : List ℕ} {ms : List Move} (M : Moving h t T T′
 
         nowhere : last t ≡ 0
         nowhere =
-            lies-as-before T′ lifted (direct-ones ++ staged-ones) t (not-both-ways (among t (direct-ones ++ staged-ones)) (λ e. are-movers t e .other refl))
+            lies-as-before T′ lifted (direct-ones ++ staged-ones) t
+            (not-both-ways (among t (direct-ones ++ staged-ones)) (λ e. are-movers t e .other refl))
             ∙ ap (λ (b : Bool). cond b 0 (nodeAt T t)) (is-first t (among t staged-ones))
 
         by-test : (b : Bool) → eqb (nodeAt T′ t) 0 ≡ b → LaidDown h T′ last (cond b [] (t ∷ []))
         by-test true e = Carrying.nobody last
         by-test false e =
             Carrying.next last t []
-            (free-if-settled last (subst (Settled T′) (sym (lying-append T′ lifted direct-ones staged-ones)) (settled-after T′ gone staged-ones settled))
+            (free-if-settled last
+            (subst (Settled T′) (sym (lying-append T′ lifted direct-ones staged-ones)) (settled-after T′ gone staged-ones settled))
             t nowhere (omega (arith, eqb-false (nodeAt T′ t) 0 e)))
             (Carrying.nobody (laid last t (nodeAt T′ t)))
 

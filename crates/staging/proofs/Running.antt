@@ -102,7 +102,8 @@ module _ (g : Graph) where
   order-runs zero A = nobody A
   order-runs (suc f) A = by-next (nextOf g A) refl (λ k. order-runs f (joined A k))
     where
-      by-next : (m : ℕ) → nextOf g A ≡ m → ((k : ℕ) → Run g (joined A k) (orderFrom f g (joined A k))) → Run g A (ifAny m (λ k. k ∷ orderFrom f g (joined A k)))
+      by-next : (m : ℕ) → nextOf g A ≡ m → ((k : ℕ) → Run g (joined A k) (orderFrom f g (joined A k)))
+          → Run g A (ifAny m (λ k. k ∷ orderFrom f g (joined A k)))
       by-next zero e rest = nobody A
       by-next (suc k) e rest =
           let is = next-is A k e in
@@ -194,7 +195,10 @@ module _ (g : Graph) where
   -- whoever can go while nobody is staged is away in the end, whoever is staged
   free-last : (S : Group) (k : ℕ) → freeOf g k ≡ true → last S k ≡ true
   unfolding freeOf orderOf
-  free-last S = run-stays (last S) (stuck-last S) (λ k. false) (orderFrom (g .n) g (λ k. false)) (order-runs (g .n) (λ k. false)) (λ j e. absurd (false≢true e))
+  free-last S =
+      let nobody-staged : Group = λ k. false in
+      run-stays (last S) (stuck-last S) nobody-staged (orderFrom (g .n) g nobody-staged) (order-runs (g .n) nobody-staged)
+      (λ j e. absurd (false≢true e))
 
   -- so a group works without them
   pub works-without : (S : Group) → ((k : ℕ) → S k ≡ true → k < g .n) → works? g S ≡ true → works? g (without S (freeOf g)) ≡ true

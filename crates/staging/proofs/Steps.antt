@@ -11,7 +11,8 @@ use lib.Dec.{eqb}
 use lib.ListN.{getD}
 use lib.Pow.{pow-pos}
 use Rattle.staging.specs.Graph.{Group, Graph, joined, away, sumOver}
-use Rattle.staging.specs.Choice.{highest, canGo?, nextOf, ifAny, orderFrom, orderOf, works?, has, costOf, freeOf, apart?, cheaperOf, betterOf, bestBelow, everyone, graphOf, Few}
+use Rattle.staging.specs.Choice.{highest, canGo?, nextOf, ifAny, orderFrom, orderOf, works?, has, costOf}
+use Rattle.staging.specs.Choice.{freeOf, apart?, cheaperOf, betterOf, bestBelow, everyone, graphOf, Few}
 use Rattle.staging.specs.declared.Movers.{Movers}
 use Rattle.staging.proofs.Bits.{within-is, apart-is, has-zero, everyone-has}
 

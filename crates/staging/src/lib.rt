@@ -6,7 +6,8 @@ ghost use Prim.Native.Nat.{_+_, _*_, _^_, _≤_, _<_};
 ghost use lib.Dec.{eqb};
 ghost use lib.Bits.{bitAnd, bitOr};
 ghost use Rattle.staging.specs.Graph.{joined, away};
-ghost use Rattle.staging.specs.Choice.{Few, graphOf, has as Spec·has, canGo?, nextOf, orderOf, works?, costOf, freeOf, cheaperOf, betterOf, chosenOf, everyone, Prices};
+ghost use Rattle.staging.specs.Choice.{Few, graphOf, has as Spec·has, canGo?, nextOf, orderOf, works?, costOf};
+ghost use Rattle.staging.specs.Choice.{freeOf, cheaperOf, betterOf, chosenOf, everyone, Prices};
 
 // The most movers that a call may have.
 pub const MOST: usize = 7;

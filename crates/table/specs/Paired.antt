@@ -1,4 +1,5 @@
--- Who goes where, in document 01's words: over the tables T before and T′ after a call of tenant t, and the new set N. `proofs/Paired.antt` shows all of it of the pairing in Pairing.antt.
+-- Who goes where, in document 01's words: over the tables T before and T′ after a call of tenant t, and the new set N.
+-- `proofs/Paired.antt` shows all of it of the pairing in Pairing.antt.
 use mathlib.Core.Path.{_≡_}
 use mathlib.Core.Bool.{true}
 use mathlib.Core.Logic.{_⊎_}

@@ -26,7 +26,8 @@ returns-2 c =
     let start = c .before .before .before .before in
     let a = start .args in
     c .within .ensures
-    ∙ can-go-by-groups (a .movers) (a .away) (a .k) (start .pre .1) (start .pre .0) (sym (c .before .before .before .has .ensures) ∙ c .before .before .if1 .left)
+    ∙ can-go-by-groups (a .movers) (a .away) (a .k) (start .pre .1) (start .pre .0)
+    (sym (c .before .before .before .has .ensures) ∙ c .before .before .if1 .left)
 
 pub can-go-spec : {M : Type 1} → statement M
 can-go-spec = tie.close (tie.spec has-requires returns array-read-within within-requires returns-2)

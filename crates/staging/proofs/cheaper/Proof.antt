@@ -13,8 +13,11 @@ returns : tie.Need-returns
 returns c =
     let priced = c .before .before in
     let start = priced .before in
-    let a = start .args in
-    (better-left (graphOf (a .movers)) (a .group) (a .best .group) (omega (arith, start .pre .1, priced .cost .ensures, c .if1 .taken)), start .pre .1)
+    let a = start .args in (
+      better-left (graphOf (a .movers)) (a .group) (a .best .group)
+          (omega (arith, start .pre .1, priced .cost .ensures, c .if1 .taken)),
+      start .pre .1,
+    )
 
 works-requires : tie.Need-works-requires
 works-requires c κs = c .before .before .before .pre .0
@@ -24,7 +27,8 @@ returns-2 c =
     let priced = c .before .before .before .before in
     let start = priced .before in
     let a = start .args in (
-      better-taken (graphOf (a .movers)) (a .group) (a .best .group) (omega (arith, start .pre .1, priced .cost .ensures, c .before .before .if1 .left))
+      better-taken (graphOf (a .movers)) (a .group) (a .best .group)
+          (omega (arith, start .pre .1, priced .cost .ensures, c .before .before .if1 .left))
           (sym (c .before .works .ensures) ∙ c .if2 .taken),
       priced .cost .ensures,
     )
@@ -34,7 +38,8 @@ returns-3 c =
     let priced = c .before .before .before .before in
     let start = priced .before in
     let a = start .args in (
-      better-fails (graphOf (a .movers)) (a .group) (a .best .group) (omega (arith, start .pre .1, priced .cost .ensures, c .before .before .if1 .left))
+      better-fails (graphOf (a .movers)) (a .group) (a .best .group)
+          (omega (arith, start .pre .1, priced .cost .ensures, c .before .before .if1 .left))
           (sym (c .before .works .ensures) ∙ c .if2 .left),
       start .pre .1,
     )

@@ -33,7 +33,8 @@ price-requires c κs = search needs
 
 add-sum : tie.Need-add-sum Inv-loop μ-loop
 add-sum c =
-    omega (arith, c .price .ensures .1, c .before .before .before .loop .inv .1, c .before .before .loop-test .taken, c .before .before .before .before .before .pre .few)
+    let at-loop = c .before .before .before in
+    omega (arith, c .price .ensures .1, at-loop .loop .inv .1, c .before .before .loop-test .taken, at-loop .before .before .pre .few)
 
 add-k : tie.Need-add-k Inv-loop μ-loop
 add-k c = search needs
@@ -53,7 +54,8 @@ loop-again c =
 returns : tie.Need-returns Inv-loop μ-loop
 returns c =
     let a = c .before .before .before .args in
-    cost-of-all (a .movers) (has (a .group)) (c .before .loop .k) (c .before .loop .sum) (omega (arith, c .before .loop .inv .0, c .loop-test .left)) (c .before .loop .inv .2)
+    let l = c .before .loop in
+    cost-of-all (a .movers) (has (a .group)) (l .k) (l .sum) (omega (arith, l .inv .0, c .loop-test .left)) (l .inv .2)
 
 pub cost-spec : {M : Type 1} → statement M
 cost-spec =
