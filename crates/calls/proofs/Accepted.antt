@@ -95,6 +95,9 @@ module _ {h : ℕ} {N : Nodes} {T₁ : List ℕ} (M : Movable h N T₁) (T : Lis
   still-holding : (u : ℕ) → ¬ (u ≡ t) → 0 < nodeAt T u → 0 < nodeAt (o .table) u
   still-holding u ne p = rw (after u ne) (moved-holds M u (rw (before u ne) p))
 
+  still-empty : (u : ℕ) → ¬ (u ≡ t) → nodeAt T u ≡ 0 → nodeAt (o .table) u ≡ 0
+  still-empty u ne z = after u ne ∙ moved-nothing M u (before u ne ∙ z)
+
   move-of-mover : (u : ℕ) → Mover t T (o .table) u → (i : ℕ) × (i < length (movesOf h N T₁)) × (getD (movesOf h N T₁) i no-move .tenant ≡ u)
   move-of-mover u m =
       let ne = m .other in
@@ -116,6 +119,7 @@ module _ {h : ℕ} {N : Nodes} {T₁ : List ℕ} (M : Movable h N T₁) (T : Lis
     new-legal = order .legal;
     new-once = order .once;
     still-holds = still-holding;
+    still-nothing = still-empty;
   }
 
   -- an entry of the list has a mover's numbers
@@ -149,7 +153,7 @@ module _ {h : ℕ} {N : Nodes} {T₁ : List ℕ} (M : Movable h N T₁) (T : Lis
     stays = λ u ne p q. after u ne ∙ moved-stays M u (rw (before u ne) (sym (occupies (nodeAt T u)) ∙ q)) ∙ before u ne;
     same-level = λ u ne p. ap (level h) (after u ne) ∙ moved-level M u (rw (before u ne) p) ∙ ap (level h) (before u ne);
     still-holds = still-holding;
-    still-nothing = λ u ne z. after u ne ∙ moved-nothing M u (before u ne ∙ z);
+    still-nothing = still-empty;
     movers-paired = subst (λ (A : Nodes). MoversPaired h A t T (o .table)) (sym (fun-ext occupies)) (movers-paired M t T (o .table) out before after);
     listed = λ i q. rw moves (in-list i (rw (← moves) q));
     all-listed = λ u ne p d. rw moves (in-list-of u (record { other = ne; had-one = p; differ = d }));

@@ -1,58 +1,28 @@
 -- The list of moves in the order of a plan has each of the moves once: first those that the run names, then those of the staged group.
 use mathlib.Core.Path.{_≡_, refl, sym, ap, _∙_}
-use mathlib.Core.Bool.{Bool, true, false, true≢false, _||_}
-use mathlib.Core.Logic.{_⊎_, inl, inr, ⊎-elim}
+use mathlib.Core.Bool.{true, false, true≢false}
+use mathlib.Core.Logic.{_⊎_, ⊎-elim}
 use mathlib.Core.List.{List, [], _∷_, _++_}
-use mathlib.Core.List.{List·Memᴰ as In, List·Memᴰ·head as at-head, List·Memᴰ·tail as in-tail}
-use mathlib.Core.List.{List·Memᴰ·not-nil as in-nothing, List·Memᴰ·cases-cons as head-or-tail, List·Memᴰ·append-cases as in-either}
+use mathlib.Core.List.{List·Memᴰ as In}
+use mathlib.Core.List.{List·Memᴰ·append-cases as in-either}
 use mathlib.Core.List.{Memᴰ·append-left as in-left, Memᴰ·append-right as in-right}
 use Prim.Native.Nat.{ℕ, zero, suc, _<_}
 use native.Mathlib.Omega.{arith}
-use borrow.Author.Tests.{eqb-true}
-use lib.Dec.{eqb}
 use lib.ListN.{length, getD, length-map}
 use Rattle.tree.proofs.Sum.{count-as-sum, sum-const}
-use Rattle.staging.specs.Graph.{Group, Graph, joined, away, Run, nobody, next, Plan}
+use Rattle.staging.specs.Graph.{Graph, Plan}
 use Rattle.staging.specs.Choice.{members, orderOf}
-use Rattle.staging.proofs.Running.{joined-self, joined-keeps}
 use Rattle.staging.proofs.Best.{chosen-plan}
 use Rattle.table.specs.Plan.{no-move}
 use Rattle.table.specs.declared.Move.{Move}
 use Rattle.table.proofs.Distinct.{Distinct, place-of, at-place, distinct-places, distinct-append, length-as-count, getD-map}
+use Rattle.carrying.specs.Carrying.{among}
 use Rattle.carrying.specs.Order.{waitingOf, marked, entries, worked}
 use Rattle.carrying.proofs.Moving.{TenantsOnce}
-use Rattle.carrying.proofs.Lists.{among-in, in-among, distinct-of-once, of-members, in-members, once-members}
-
--- ---- the movers of a run
-
-of-joined : (A : Group) (k j : ℕ) → joined A k j ≡ true → (j ≡ k) ⊎ (A j ≡ true)
-of-joined A k j e = by-test (eqb j k) refl e
-  where
-    by-test : (b : Bool) → eqb j k ≡ b → (b || A j) ≡ true → (j ≡ k) ⊎ (A j ≡ true)
-    by-test true f g = inl (eqb-true j k f)
-    by-test false f g = inr g
-
-of-away : (A : Group) (ks : List ℕ) (j : ℕ) → away A ks j ≡ true → (A j ≡ true) ⊎ In j ks
-of-away A [] j e = inl e
-of-away A (k ∷ ks) j e = go (of-away (joined A k) ks j e)
-  where
-    go : (joined A k j ≡ true) ⊎ In j ks → (A j ≡ true) ⊎ In j (k ∷ ks)
-    go (inl f) = ⊎-elim (λ (s : j ≡ k). inr (at-head s)) inl (of-joined A k j f)
-    go (inr m) = inr (in-tail m)
+use Rattle.carrying.proofs.Lists.{one-passes, away-is, among-in, in-among, distinct-of-once, of-members, in-members, once-members}
+use Rattle.carrying.proofs.Runs.{run-below, run-there, run-once}
 
 module _ (g : Graph) where
-  of-run : (A : Group) (ks : List ℕ) → Run g A ks → (j : ℕ) → In j ks → (j < g .n) × (¬ (A j ≡ true))
-  of-run _ _ (nobody A) j m = absurd (in-nothing m)
-  of-run _ _ (next A k ks q there can rest) j m = go (head-or-tail m) (of-run (joined A k) ks rest j)
-    where
-      go : (j ≡ k) ⊎ In j ks → (In j ks → (j < g .n) × (¬ (joined A k j ≡ true))) → (j < g .n) × (¬ (A j ≡ true))
-      go (inl e) later = (omega (arith, q), λ f. true≢false (sym f ∙ ap A e ∙ there))
-      go (inr m′) later = let r = later m′ in (r .0, λ f. r .1 (joined-keeps A k j f))
-
-  distinct-run : (A : Group) (ks : List ℕ) → Run g A ks → Distinct ks
-  distinct-run _ _ (nobody A) = tt
-  distinct-run _ _ (next A k ks q there can rest) = (λ m. of-run (joined A k) ks rest k m .1 (joined-self A k), distinct-run (joined A k) ks rest)
-
   -- ---- the numbers of a plan: those that go, then the staged
 
   module _ (p : Plan g) where
@@ -61,20 +31,23 @@ module _ (g : Graph) where
 
     pub numbers-below : (k : ℕ) → In k numbersOf → k < g .n
     numbers-below k m =
-        ⊎-elim (λ r. of-run (p .staged) (p .order) (p .goes) k r .0)
+        ⊎-elim (λ r. run-below g (p .staged) (p .order) (p .goes) k (among-in k (p .order) r))
         (λ r. of-members (g .n) (p .staged) k (among-in k (members (g .n) (p .staged)) r) .0) (in-either (p .order) m)
 
     pub numbers-all : (k : ℕ) → k < g .n → In k numbersOf
     numbers-all k q =
-        ⊎-elim (λ e. in-right (p .order) (in-among k (members (g .n) (p .staged)) (in-members (g .n) (p .staged) k q e)))
-        (λ m. in-left (members (g .n) (p .staged)) m)
-        (of-away (p .staged) (p .order) k (p .everybody k q))
+        ⊎-elim (λ e. in-left (members (g .n) (p .staged)) (in-among k (p .order) e))
+        (λ e. in-right (p .order) (in-among k (members (g .n) (p .staged)) (in-members (g .n) (p .staged) k q e)))
+        (one-passes (among k (p .order)) (p .staged k) (sym (away-is (p .staged) (p .order) k) ∙ p .everybody k q))
 
     pub numbers-once : Distinct numbersOf
     numbers-once =
-        distinct-append (p .order) (members (g .n) (p .staged)) (distinct-run (p .staged) (p .order) (p .goes))
+        distinct-append (p .order) (members (g .n) (p .staged))
+        (distinct-of-once (p .order) (run-once g (p .staged) (p .order) (p .goes)))
         (distinct-of-once (members (g .n) (p .staged)) (once-members (g .n) (p .staged)))
-        (λ k m r. of-run (p .staged) (p .order) (p .goes) k m .1 (of-members (g .n) (p .staged) k (among-in k (members (g .n) (p .staged)) r) .1))
+        (λ k m r.
+        let staged = of-members (g .n) (p .staged) k (among-in k (members (g .n) (p .staged)) r) .1 in
+        true≢false (sym staged ∙ run-there g (p .staged) (p .order) (p .goes) k (among-in k (p .order) m)))
 
     pub numbers-length : length numbersOf ≡ g .n
     numbers-length =

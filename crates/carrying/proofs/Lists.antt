@@ -20,7 +20,7 @@ use Rattle.carrying.specs.Carrying.{among, Once, Ascending, Before, lowe
 -- ---- who stands in a list
 
 -- one of two tests passes
-one-passes : (x y : Bool) → (x || y) ≡ true → (x ≡ true) ⊎ (y ≡ true)
+pub one-passes : (x y : Bool) → (x || y) ≡ true → (x ≡ true) ⊎ (y ≡ true)
 one-passes true y e = inl refl
 one-passes false y e = inr e
 
@@ -57,6 +57,9 @@ among-append u (w ∷ us) vs = ap (λ (b : Bool). eqb u w || b) (among-append u 
 
 pub in-parts : (u : ℕ) (us vs : List ℕ) → among u (us ++ vs) ≡ true → (among u us ≡ true) ⊎ (among u vs ≡ true)
 in-parts u us vs e = one-passes (among u us) (among u vs) (sym (among-append u us vs) ∙ e)
+
+pub not-in-parts : (u : ℕ) (us vs : List ℕ) → among u (us ++ vs) ≡ false → (among u us ≡ false) × (among u vs ≡ false)
+not-in-parts u us vs e = both-fail (among u us) (among u vs) (sym (among-append u us vs) ∙ e)
 
 pub in-first-part : (u : ℕ) (us vs : List ℕ) → among u us ≡ true → among u (us ++ vs) ≡ true
 in-first-part u us vs e = among-append u us vs ∙ ap (λ (b : Bool). b || among u vs) e
@@ -113,10 +116,7 @@ once-append (u ∷ us) vs a b apart = (
   once-append us vs (a .1) b (λ v e. apart v (is-other v u (among v us) e)),
 )
 
--- the two parts of such a list
-not-in-parts : (u : ℕ) (us vs : List ℕ) → among u (us ++ vs) ≡ false → (among u us ≡ false) × (among u vs ≡ false)
-not-in-parts u us vs e = both-fail (among u us) (among u vs) (sym (among-append u us vs) ∙ e)
-
+-- the two parts of a list in which nobody stands twice
 pub once-first : (us vs : List ℕ) → Once (us ++ vs) → Once us
 once-first [] vs a = tt
 once-first (u ∷ us) vs a = (not-in-parts u us vs (a .0) .0, once-first us vs (a .1))

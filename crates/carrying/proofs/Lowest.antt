@@ -13,7 +13,7 @@ use Rattle.carrying.proofs.Moving.{Moving}
 use Rattle.carrying.proofs.Lists.{neither, from-map}
 use Rattle.carrying.proofs.Indices.{tenantAt, higher-index}
 use Rattle.carrying.proofs.Standing.{Standing, one-gone, can-go-if-free}
-use Rattle.carrying.proofs.ToPages.{run-below, run-there}
+use Rattle.carrying.proofs.Runs.{run-below, run-there}
 
 -- the first of the order, and the rest
 first-lowest : (g : Graph) (A : Group) (k : ℕ) (ks : List ℕ) → LowestFirst g A (k ∷ ks)

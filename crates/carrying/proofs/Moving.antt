@@ -29,6 +29,7 @@ pub record MovingBy (R : List Move → Type 0) (h t : ℕ) (T T′ : List ℕ) (
   pub new-legal : Legal (occupied T′)
   pub new-once : (u v : ℕ) → 0 < nodeAt T′ u → nodeAt T′ u ≡ nodeAt T′ v → u ≡ v
   pub still-holds : (u : ℕ) → ¬ (u ≡ t) → 0 < nodeAt T u → 0 < nodeAt T′ u
+  pub still-nothing : (u : ℕ) → ¬ (u ≡ t) → nodeAt T u ≡ 0 → nodeAt T′ u ≡ 0
 
 -- each once, in any order
 abbrev pub Unsorted : ℕ → ℕ → List ℕ → List ℕ → List Move → Type 0

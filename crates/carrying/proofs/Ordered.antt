@@ -86,4 +86,5 @@ moving-by-tenant h t T T′ ms u =
       new-legal = u .new-legal;
       new-once = u .new-once;
       still-holds = u .still-holds;
+      still-nothing = u .still-nothing;
     }

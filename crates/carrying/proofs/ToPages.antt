@@ -1,6 +1,6 @@
 -- A plan of the graph can be carried out: the direct ones go in its order, then the staged are set down, then the newcomer.
 use mathlib.Core.Path.{_≡_, refl, sym, ap, _∙_, subst}
-use mathlib.Core.Bool.{Bool, true, false, cond, true≢false, false≢true}
+use mathlib.Core.Bool.{Bool, true, false, cond, true≢false}
 use mathlib.Core.Logic.{_⊎_, inl, inr, ⊎-elim}
 use mathlib.Core.List.{List, [], _∷_, _++_, map, map-append}
 use Prim.Native.Nat.{ℕ, _<_}
@@ -11,7 +11,7 @@ use lib.ListN.{length}
 use Rattle.tree.specs.Node.{Covers}
 use Rattle.staging.specs.Graph.{Group, joined, away, Run, nobody, next}
 use Rattle.staging.specs.Graph as Graph
-use Rattle.staging.proofs.Running.{not-both-ways, joined-self}
+use Rattle.staging.proofs.Running.{not-both-ways}
 use Rattle.table.specs.Table.{nodeAt}
 use Rattle.table.specs.Paired.{Mover}
 use Rattle.table.specs.declared.Move.{Move}
@@ -19,8 +19,9 @@ use Rattle.carrying.specs.Carrying.{Lying, FreePages, laid, among, Once,
 use Rattle.carrying.specs.Carrying as Carrying
 use Rattle.carrying.specs.Order.{waitingOf}
 use Rattle.carrying.proofs.Moving.{Moving}
-use Rattle.carrying.proofs.Lists.{one-or-other, neither, is-first, is-other, not-same, among-append, in-parts, away-is, to-map, from-map}
+use Rattle.carrying.proofs.Lists.{neither, is-first, is-other, not-same, among-append, in-parts, away-is, to-map, from-map}
 use Rattle.carrying.proofs.Lists.{once-append, once-second, once-apart, once-map}
+use Rattle.carrying.proofs.Runs.{run-below, run-there, run-once}
 use Rattle.carrying.proofs.Meeting.{new-apart}
 use Rattle.carrying.proofs.Indices.{tenantAt, planBy, Indices, same-index}
 use Rattle.carrying.proofs.Standing.{laid-other, StillThere, Standing, at-first, one-gone, has-new, free-if-can-go}
@@ -38,7 +39,7 @@ lying-append T′ L [] vs = refl
 lying-append T′ L (u ∷ us) vs = lying-append T′ (laid L u (nodeAt T′ u)) us vs
 
 -- whoever is not laid down lies where it lay
-lies-as-before : (T′ : List ℕ) (L : Lying) (us : List ℕ) (v : ℕ) → among v us ≡ false → lyingAfter T′ L us v ≡ L v
+pub lies-as-before : (T′ : List ℕ) (L : Lying) (us : List ℕ) (v : ℕ) → among v us ≡ false → lyingAfter T′ L us v ≡ L v
 lies-as-before T′ L [] v e = refl
 lies-as-before T′ L (u ∷ us) v e =
     let r = neither v u (among v us) e in
@@ -59,32 +60,6 @@ settled-laid T′ L u settled v = by-test (eqb v u) refl
 settled-after : (T′ : List ℕ) (L : Lying) (us : List ℕ) → Settled T′ L → Settled T′ (lyingAfter T′ L us)
 settled-after T′ L [] settled = settled
 settled-after T′ L (u ∷ us) settled = settled-after T′ (laid L u (nodeAt T′ u)) us (settled-laid T′ L u settled)
-
--- ---- who goes
-
-pub run-below : (g : Graph.Graph) (A : Group) (ks : List ℕ) → Run g A ks → (k : ℕ) → among k ks ≡ true → k < g .n
-run-below g _ _ (nobody A) k e = absurd (false≢true e)
-run-below g _ _ (next A j ks q there can rest) k e = by-case (one-or-other k j (among k ks) e) (run-below g (joined A j) ks rest k)
-  where
-    by-case : (k ≡ j) ⊎ (among k ks ≡ true) → (among k ks ≡ true → k < g .n) → k < g .n
-    by-case (inl same) later = omega arith
-    by-case (inr f) later = later f
-
--- nobody who goes is away before
-pub run-there : (g : Graph.Graph) (A : Group) (ks : List ℕ) → Run g A ks → (k : ℕ) → among k ks ≡ true → A k ≡ false
-run-there g _ _ (nobody A) k e = absurd (false≢true e)
-run-there g _ _ (next A j ks q there can rest) k e = by-case (one-or-other k j (among k ks) e) (run-there g (joined A j) ks rest k)
-  where
-    by-case : (k ≡ j) ⊎ (among k ks ≡ true) → (among k ks ≡ true → joined A j k ≡ false) → A k ≡ false
-    by-case (inl same) later = ap A same ∙ there
-    by-case (inr f) later = neither k j (A k) (later f) .1
-
-run-once : (g : Graph.Graph) (A : Group) (ks : List ℕ) → Run g A ks → Once ks
-run-once g _ _ (nobody A) = tt
-run-once g _ _ (next A k ks q there can rest) = (
-  not-both-ways (among k ks) (λ e. true≢false (sym (joined-self A k) ∙ run-there g (joined A k) ks rest k e)),
-  run-once g (joined A k) ks rest,
-)
 
 module _ {h t : ℕ} {T T′ : List ℕ} {ms : List Move} (M : Moving h t T T′ ms) where
   -- movers who go one by one are laid down one by one, on free pages

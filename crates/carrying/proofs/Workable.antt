@@ -11,7 +11,7 @@ use Rattle.staging.proofs.Running.{not-both-ways}
 use Rattle.staging.proofs.Sums.{sum-cong}
 use Rattle.staging.proofs.Best.{chosen-plan, chosen-movers, chosen-is-best}
 use Rattle.table.specs.declared.Move.{Move}
-use Rattle.carrying.specs.Carrying.{among, liftedOut, Plan, CarriedOut, pagesAt, Ascending, Before, AscendingOf, BestPlan, Workable}
+use Rattle.carrying.specs.Carrying.{among, liftedOut, Plan, CarriedOut, pagesAt, Ascending, Before, AscendingOf, BestPlan, Workable, planIn}
 use Rattle.carrying.specs.Order.{waitingOf, stagedIn, worked, byTenant, inOrder}
 use Rattle.carrying.proofs.Moving.{Unsorted, Moving}
 use Rattle.carrying.proofs.Ordered.{moving-by-tenant}
@@ -22,6 +22,7 @@ use Rattle.carrying.proofs.FromPages.{InGraph, in-graph}
 use Rattle.carrying.proofs.ToPages.{carried-out}
 use Rattle.carrying.proofs.Spelling.{plan-of-list, at-most-one, zeros-first}
 use Rattle.carrying.proofs.Lowest.{no-lower-free}
+use Rattle.carrying.proofs.Arriving.{carried-arrives}
 
 module _ {h t : ℕ} {T T′ : List ℕ} {ms : List Move} (M : Moving h t T T′ ms) where
   -- from the highest index down the tenant numbers ascend
@@ -141,8 +142,9 @@ module _ {h t : ℕ} {T T′ : List ℕ} {ms : List Move} (M : Moving h t T T′
 
 pub worked-workable : (h t : ℕ) (T T′ : List ℕ) (ms : List Move) → Moving h t T T′ ms → Workable h t T T′ (worked h ms)
 unfolding worked
-worked-workable h t T T′ ms M = record {
-  best = subst (BestPlan h t T T′) (sym (plan-of-list ms (order M) (aside M))) (best-plan M);
+worked-workable h t T T′ ms M = let listed = subst (BestPlan h t T T′) (sym (plan-of-list ms (order M) (aside M))) (best-plan M) in record {
+  best = listed;
+  arrives = carried-arrives M (planIn (worked h ms)) (listed .carried-out);
   zero-or-one = at-most-one ms (aside M) (order M);
   direct-first = zeros-first ms (aside M) (order M);
 }

@@ -63,13 +63,17 @@ pub record Plan : Type 0 where
 abbrev pub newcomerIn : List ℕ → ℕ → List ℕ
 newcomerIn T′ t = cond (eqb (nodeAt T′ t) 0) [] (t ∷ [])
 
+-- all who come to lie on a node, in their order: the direct ones, then the staged, then the newcomer
+abbrev pub everybodyIn : Plan → List ℕ → ℕ → List ℕ
+everybodyIn p T′ t = p .direct ++ p .staged ++ newcomerIn T′ t
+
 -- the plan can be carried out
 pub record CarriedOut (h t : ℕ) (T T′ : List ℕ) (p : Plan) : Type 0 where
   -- just the movers stand in it, each once
   pub movers : (u : ℕ) → (among u (p .direct ++ p .staged) ≡ true) ↔ Mover t T T′ u
   pub once : Once (p .direct ++ p .staged)
-  -- the staged are lifted out; then the direct ones go, then the staged are set down, then the newcomer, each onto free pages
-  pub works : LaidDown h T′ (liftedOut t T (p .staged)) (p .direct ++ p .staged ++ newcomerIn T′ t)
+  -- the staged are lifted out, and then each comes onto free pages
+  pub works : LaidDown h T′ (liftedOut t T (p .staged)) (everybodyIn p T′ t)
 
 -- the pages that the tenants us have in T
 abbrev pub pagesAt : ℕ → List ℕ → List ℕ → ℕ
@@ -122,5 +126,7 @@ planIn ms = record { direct = tenantsWith 0 ms; staged = tenantsWith 1 ms }
 -- the list of moves is that of document 02: the best plan's, with 1 for the staged, 0 for the others, who stand first
 pub record Workable (h t : ℕ) (T T′ : List ℕ) (ms : List Move) : Type 0 where
   pub best : BestPlan h t T T′ (planIn ms)
+  -- carried out, it brings every block to where the table afterwards has it
+  pub arrives : (u : ℕ) → lyingAfter T′ (liftedOut t T (planIn ms .staged)) (everybodyIn (planIn ms) T′ t) u ≡ nodeAt T′ u
   pub zero-or-one : (i : ℕ) → i < length ms → getD ms i no-move .staged ≤ 1
   pub direct-first : (i j : ℕ) → i < j → j < length ms → getD ms i no-move .staged ≤ getD ms j no-move .staged
