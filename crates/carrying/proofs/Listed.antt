@@ -11,13 +11,13 @@ use native.Mathlib.Omega.{arith}
 use lib.ListN.{length, getD, length-map}
 use Rattle.tree.proofs.Sum.{count-as-sum, sum-const}
 use Rattle.staging.specs.Graph.{Graph, Plan}
-use Rattle.staging.specs.Choice.{members, orderOf}
+use Rattle.staging.specs.Choice.{orderOf}
 use Rattle.staging.proofs.Best.{chosen-plan}
 use Rattle.table.specs.Plan.{no-move}
 use Rattle.table.specs.declared.Move.{Move}
 use Rattle.table.proofs.Distinct.{Distinct, place-of, at-place, distinct-places, distinct-append, length-as-count, getD-map}
 use Rattle.carrying.specs.Carrying.{among}
-use Rattle.carrying.specs.Order.{waitingOf, marked, entries, worked}
+use Rattle.carrying.specs.Order.{waitingOf, marked, entries, worked, members}
 use Rattle.carrying.proofs.Moving.{TenantsOnce}
 use Rattle.carrying.proofs.Lists.{one-passes, away-is, among-in, in-among, distinct-of-once, of-members, in-members, once-members}
 use Rattle.carrying.proofs.Runs.{run-below, run-there, run-once}

@@ -12,9 +12,9 @@ use borrow.Author.Tests.{eqb-true, eqb-false, eq-eqb, ne-eqb}
 use lib.Dec.{eqb}
 use Rattle.table.proofs.Distinct.{Distinct}
 use Rattle.staging.specs.Graph.{Group, joined, away, sumOver}
-use Rattle.staging.specs.Choice.{members}
-use Rattle.staging.proofs.Running.{not-both-ways}
+use Rattle.staging.proofs.Booleans.{false-if-not-true}
 use Rattle.staging.proofs.Sums.{sum-joined}
+use Rattle.carrying.specs.Order.{members}
 use Rattle.carrying.specs.Carrying.{among, Once, Ascending, Before, lower, alike}
 
 -- ---- who stands in a list
@@ -104,7 +104,7 @@ among-map f k ks apart = by-test (among k ks) refl
     by-test : (b : Bool) → among k ks ≡ b → among (f k) (map f ks) ≡ b
     by-test true e = to-map f k ks e
     by-test false e =
-        not-both-ways (among (f k) (map f ks))
+        false-if-not-true (among (f k) (map f ks))
         (λ m. let r = from-map f (f k) ks m in true≢false (sym (r .1) ∙ ap (λ (j : ℕ). among j ks) (apart (r .0) (r .1) (r .2)) ∙ e))
 
 -- ---- each once
@@ -136,7 +136,7 @@ once-apart (u ∷ us) vs a v e = by-case (one-or-other v u (among v us) e) (once
 pub once-of-map : (f : ℕ → ℕ) (ks : List ℕ) → Once (map f ks) → Once ks
 once-of-map f [] a = tt
 once-of-map f (k ∷ ks) a =
-    (not-both-ways (among k ks) (λ e. true≢false (sym (to-map f k ks e) ∙ a .0)), once-of-map f ks (a .1))
+    (false-if-not-true (among k ks) (λ e. true≢false (sym (to-map f k ks e) ∙ a .0)), once-of-map f ks (a .1))
 
 pub once-map : (f : ℕ → ℕ) (ks : List ℕ) → ((k : ℕ) → among k ks ≡ true → Apart f k ks) → Once ks → Once (map f ks)
 once-map f [] apart a = tt
@@ -202,7 +202,7 @@ once-members zero S = tt
 once-members (suc n) S = by-test (S n) (once-members n S)
   where
     by-test : (b : Bool) → Once (members n S) → Once (cond b (n ∷ members n S) (members n S))
-    by-test true a = (not-both-ways (among n (members n S)) (λ e. omega (arith, of-members n S n e .0)), a)
+    by-test true a = (false-if-not-true (among n (members n S)) (λ e. omega (arith, of-members n S n e .0)), a)
     by-test false a = a
 
 -- ---- sums
@@ -224,7 +224,7 @@ sum-of-list n f F none more (k ∷ ks) a below =
 
 lower-not-among : (u : ℕ) (us : List ℕ) → Ascending (u ∷ us) → (x : ℕ) → x < u → among x (u ∷ us) ≡ false
 lower-not-among u us a x q =
-    is-neither x u (among x us) (λ e. omega arith) (not-both-ways (among x us) (λ e. omega (arith, a .0 x e)))
+    is-neither x u (among x us) (λ e. omega arith) (false-if-not-true (among x us) (λ e. omega (arith, a .0 x e)))
 
 -- the lowest number that stands in one of two lists only stands in us
 pub record FirstDifference (us vs : List ℕ) : Type 0 where

@@ -6,7 +6,8 @@ use mathlib.Core.List.{List}
 use Prim.Native.Nat.{ℕ, _<_}
 use native.Mathlib.Omega.{arith}
 use Rattle.staging.specs.Graph.{Group, Graph, joined, Run, nobody, next}
-use Rattle.staging.proofs.Running.{not-both-ways, joined-self}
+use Rattle.staging.proofs.Booleans.{false-if-not-true}
+use Rattle.staging.proofs.Running.{joined-self}
 use Rattle.carrying.specs.Carrying.{among, Once}
 use Rattle.carrying.proofs.Lists.{one-or-other, neither}
 
@@ -31,6 +32,6 @@ run-there g _ _ (next A j ks q there can rest) k e = by-case (one-or-other k j (
 pub run-once : (g : Graph) (A : Group) (ks : List ℕ) → Run g A ks → Once ks
 run-once g _ _ (nobody A) = tt
 run-once g _ _ (next A k ks q there can rest) = (
-  not-both-ways (among k ks) (λ e. true≢false (sym (joined-self A k) ∙ run-there g (joined A k) ks rest k e)),
+  false-if-not-true (among k ks) (λ e. true≢false (sym (joined-self A k) ∙ run-there g (joined A k) ks rest k e)),
   run-once g (joined A k) ks rest,
 )

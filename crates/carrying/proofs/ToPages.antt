@@ -11,7 +11,7 @@ use lib.ListN.{length}
 use Rattle.tree.specs.Node.{Covers}
 use Rattle.staging.specs.Graph.{Group, joined, away, Run, nobody, next}
 use Rattle.staging.specs.Graph as Graph
-use Rattle.staging.proofs.Running.{not-both-ways}
+use Rattle.staging.proofs.Booleans.{false-if-not-true}
 use Rattle.table.specs.Table.{nodeAt}
 use Rattle.table.specs.Paired.{Mover}
 use Rattle.table.specs.declared.Move.{Move}
@@ -150,7 +150,7 @@ module _ {h t : ℕ} {T T′ : List ℕ} {ms : List Move} (M : Moving h t T T′
     staged-out : (u : ℕ) → among u staged-ones ≡ true → (gone u ≡ 0) × (0 < nodeAt T′ u)
     staged-out u e =
         let not-going : among u direct-ones ≡ false =
-        not-both-ways (among u direct-ones) (λ f. true≢false (sym e ∙ once-apart direct-ones staged-ones each-once u f)) in
+        false-if-not-true (among u direct-ones) (λ f. true≢false (sym e ∙ once-apart direct-ones staged-ones each-once u f)) in
         let r = from-map (tenantAt ms) u ss e in (
           lies-as-before T′ lifted direct-ones u not-going ∙ ap (λ (b : Bool). cond b 0 (nodeAt T u)) (is-other u t (among u staged-ones) e),
           subst (λ (v : ℕ). 0 < nodeAt T′ v) (r .2) (has-new M (r .0) (ss-below (r .0) (r .1))),
@@ -165,7 +165,7 @@ module _ {h t : ℕ} {T T′ : List ℕ} {ms : List Move} (M : Moving h t T T′
         nowhere : last t ≡ 0
         nowhere =
             lies-as-before T′ lifted (direct-ones ++ staged-ones) t
-            (not-both-ways (among t (direct-ones ++ staged-ones)) (λ e. are-movers t e .other refl))
+            (false-if-not-true (among t (direct-ones ++ staged-ones)) (λ e. are-movers t e .other refl))
             ∙ ap (λ (b : Bool). cond b 0 (nodeAt T t)) (is-first t (among t staged-ones))
 
         by-test : (b : Bool) → eqb (nodeAt T′ t) 0 ≡ b → LaidDown h T′ last (cond b [] (t ∷ []))

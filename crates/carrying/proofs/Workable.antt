@@ -6,13 +6,13 @@ use Prim.Native.Nat.{ℕ, zero, suc, _≤_, _<_}
 use native.Mathlib.Omega.{arith}
 use lib.ListN.{length}
 use Rattle.staging.specs.Graph.{Group, Graph, away, Run, LowestFirst, Earlier, Best, sumOver, pagesOf, tenantsOf}
-use Rattle.staging.specs.Choice.{has, orderOf, members}
-use Rattle.staging.proofs.Running.{not-both-ways}
+use Rattle.staging.specs.Choice.{has, orderOf}
+use Rattle.staging.proofs.Booleans.{false-if-not-true}
 use Rattle.staging.proofs.Sums.{sum-cong}
 use Rattle.staging.proofs.Best.{chosen-plan, chosen-movers, chosen-is-best}
 use Rattle.table.specs.declared.Move.{Move}
 use Rattle.carrying.specs.Carrying.{among, liftedOut, Plan, CarriedOut, pagesAt, Ascending, Before, AscendingOf, BestPlan, Workable, planIn}
-use Rattle.carrying.specs.Order.{waitingOf, stagedIn, worked, byTenant, inOrder}
+use Rattle.carrying.specs.Order.{waitingOf, stagedIn, worked, byTenant, inOrder, members}
 use Rattle.carrying.proofs.Moving.{Unsorted, Moving}
 use Rattle.carrying.proofs.Ordered.{moving-by-tenant}
 use Rattle.carrying.proofs.Lists.{from-map, of-members, in-members, once-members, first-difference, in-second-part}
@@ -62,7 +62,7 @@ module _ {h t : ℕ} {T T′ : List ℕ} {ms : List Move} (M : Moving h t T T′
         where
           by-test : (b : Bool) → group k ≡ b → among k aside ≡ b
           by-test true e = in-members (length ms) group k (chosen-movers graph k e) e
-          by-test false e = not-both-ways (among k aside) (λ f. true≢false (sym (of-members (length ms) group k f .1) ∙ e))
+          by-test false e = false-if-not-true (among k aside) (λ f. true≢false (sym (of-members (length ms) group k f .1) ∙ e))
 
   aside-below : Indices ms aside
   aside-below k e = of-members (length ms) group k e .0

@@ -12,7 +12,9 @@ use lib.Dec.{eqb, eqb·suc-zero, eqb·suc-suc}
 use lib.Pow.{shr-shr, pow-pos, pow-mono}
 use Rattle.staging.specs.Graph.{Group, joined}
 use Rattle.staging.specs.Choice.{highest, has, everyone}
+use Rattle.staging.proofs.Booleans.{false-if-not-true}
 use Rattle.staging.proofs.Highest.{none-of-zero, highest-of-suc}
+use Rattle.staging.proofs.Sums.{cond-le}
 
 -- ---- the digits of a number
 
@@ -135,13 +137,9 @@ abbrev pub numberOf : ℕ → Group → ℕ
 numberOf zero S = 0
 numberOf (suc n) S = cond (S 0) 1 0 + 2 * numberOf n (λ k. S (suc k))
 
-cond-le-one : (b : Bool) → cond b 1 0 ≤ 1
-cond-le-one true = omega arith
-cond-le-one false = omega arith
-
 pub number-below : (n : ℕ) (S : Group) → numberOf n S < 2 ^ n
 number-below zero S = omega arith
-number-below (suc n) S = omega (arith, cond-le-one (S 0), number-below n (λ k. S (suc k)), pow-suc 2 n)
+number-below (suc n) S = omega (arith, cond-le (S 0) 1, number-below n (λ k. S (suc k)), pow-suc 2 n)
 
 pub has-number : (n : ℕ) (S : Group) (k : ℕ) → k < n → has (numberOf n S) k ≡ S k
 has-number zero S k q = absurd (omega arith)
@@ -151,20 +149,16 @@ has-number (suc n) S zero q = by-test (S 0)
     by-test true = let odd : (1 + 2 * numberOf n (λ k. S (suc k))) % 2 ≡ 1 = omega arith in digit-of-one _ odd
     by-test false = let even : (0 + 2 * numberOf n (λ k. S (suc k))) % 2 ≡ 0 = omega arith in digit-of-zero _ even
 has-number (suc n) S (suc k) q =
-    let half : numberOf (suc n) S / 2 ≡ numberOf n (λ k. S (suc k)) = omega (arith, cond-le-one (S 0)) in
+    let half : numberOf (suc n) S / 2 ≡ numberOf n (λ k. S (suc k)) = omega (arith, cond-le (S 0) 1) in
     half-alike (numberOf (suc n) S) (numberOf n (λ k. S (suc k))) k half ∙ has-number n (λ k. S (suc k)) k (omega arith)
 
 -- a group of movers is that of its number
 pub group-of-number : (n : ℕ) (S : Group) → ((k : ℕ) → S k ≡ true → k < n) → has (numberOf n S) ≡ S
 group-of-number n S movers = λ i k. alike k (decLt k n) i
   where
-    not-passed : (x : Bool) → ¬ (x ≡ true) → x ≡ false
-    not-passed true p = absurd (p refl)
-    not-passed false p = refl
-
     alike : (k : ℕ) → Dec (k < n) → has (numberOf n S) k ≡ S k
     alike k (yes q) = has-number n S k q
-    alike k (no q) = has-above n (numberOf n S) k (number-below n S) (omega arith) ∙ sym (not-passed (S k) (λ e. q (movers k e)))
+    alike k (no q) = has-above n (numberOf n S) k (number-below n S) (omega arith) ∙ sym (false-if-not-true (S k) (λ e. q (movers k e)))
 
 -- the number of the group that a number stands for
 pub number-of-has : (n s : ℕ) → s < 2 ^ n → numberOf n (has s) ≡ s
@@ -193,7 +187,7 @@ number-greater (suc n) S S′ zero q e f alike =
     omega (arith, rest, is-one, is-none)
 number-greater (suc n) S S′ (suc k) q e f alike =
     let rest = number-greater n (λ k. S (suc k)) (λ k. S′ (suc k)) k (omega arith) e f (λ j r s. alike (suc j) (omega arith) (omega arith)) in
-    omega (arith, rest, cond-le-one (S 0), cond-le-one (S′ 0))
+    omega (arith, rest, cond-le (S 0) 1, cond-le (S′ 0) 1)
 
 -- ---- tests of two groups
 

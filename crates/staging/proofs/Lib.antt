@@ -1,3 +1,4 @@
+pub mod Booleans
 pub mod Bits
 pub mod Highest
 pub mod Sums

@@ -1,33 +1,17 @@
 -- Whoever can go goes, the lowest tenant number first: this gets everybody away exactly if some order does.
 use mathlib.Core.Path.{_≡_, refl, sym, ap, _∙_}
-use mathlib.Core.Bool.{Bool, true, false, not, _&&_, _||_, true≢false, false≢true}
+use mathlib.Core.Bool.{Bool, true, false, not, _&&_, _||_, true≢false, false≢true, and-eq-true-iff}
 use mathlib.Core.List.{List, [], _∷_}
 use Prim.Native.Nat.{ℕ, zero, suc, _+_, _≤_, _<_}
 use native.Mathlib.Omega.{arith}
-use borrow.Author.Tests.{eqb-true, eq-eqb}
+use borrow.Author.Tests.{eqb-true, eq-eqb, not-true, not-false}
 use lib.Dec.{eqb}
 use Rattle.staging.specs.Graph.{Group, Graph, joined, away, CanGo, Run, nobody, next, Plan, sumOver, LowestFirst}
 use Rattle.staging.specs.Choice.{highest, canGo?, nextOf, ifAny, orderFrom, orderOf, works?, freeOf}
 use Rattle.staging.proofs.Highest.{highest-none, none-of-zero, IsHighest, highest-of-suc}
 use Rattle.staging.proofs.Sums.{without, all-of-count, sum-joined}
 
--- ---- Boolean tests
-
-both : (x y : Bool) → x ≡ true → y ≡ true → (x && y) ≡ true
-both true y p q = q
-both false y p q = absurd (false≢true p)
-
-first-of : (x y : Bool) → (x && y) ≡ true → x ≡ true
-first-of true y p = refl
-first-of false y p = absurd (false≢true p)
-
-second-of : (x y : Bool) → (x && y) ≡ true → y ≡ true
-second-of true y p = p
-second-of false y p = absurd (false≢true p)
-
-pub not-both-ways : (x : Bool) → ¬ (x ≡ true) → x ≡ false
-not-both-ways true p = absurd (p refl)
-not-both-ways false p = refl
+-- ---- who is waited for
 
 waited-not-away : (w a : Bool) → (w && not a) ≡ false → w ≡ true → a ≡ true
 waited-not-away true true e p = refl
@@ -38,24 +22,20 @@ nobody-waited : (w a : Bool) → (w ≡ true → a ≡ true) → (w && not a) �
 nobody-waited true a p = rw (p refl)
 nobody-waited false a p = refl
 
-still-there : (x : Bool) → not x ≡ true → x ≡ false
-still-there true p = absurd (false≢true p)
-still-there false p = refl
-
 -- ---- who can go
 
 module _ (g : Graph) (A : Group) (k : ℕ) where
   pub can-go-when : A k ≡ false → CanGo g A k → canGo? g A k ≡ true
   can-go-when there can =
-      both (not (A k)) _ (rw there)
-      (eq-eqb _ 0 (highest-none (g .n) (λ j. g .waits k j && not (A j)) (λ j q. nobody-waited (g .waits k j) (A j) (can j q))))
+      let nobody-there = highest-none (g .n) (λ j. g .waits k j && not (A j)) (λ j q. nobody-waited (g .waits k j) (A j) (can j q)) in
+      and-eq-true-iff (not (A k)) _ .1 (rw there, eq-eqb _ 0 nobody-there)
 
   pub can-go-there : canGo? g A k ≡ true → A k ≡ false
-  can-go-there e = still-there (A k) (first-of (not (A k)) _ e)
+  can-go-there e = not-true (A k) (and-eq-true-iff (not (A k)) _ .0 e .0)
 
   pub can-go-of : canGo? g A k ≡ true → CanGo g A k
   can-go-of e j q w =
-      let nobody-there = eqb-true (highest (g .n) (λ j. g .waits k j && not (A j))) 0 (second-of (not (A k)) _ e) in
+      let nobody-there = eqb-true (highest (g .n) (λ j. g .waits k j && not (A j))) 0 (and-eq-true-iff (not (A k)) _ .0 e .1) in
       waited-not-away (g .waits k j) (A j) (none-of-zero (g .n) (λ j. g .waits k j && not (A j)) nobody-there j q) w
 
 -- ---- who is away
@@ -174,11 +154,7 @@ module _ (g : Graph) where
   pub all-away : (S : Group) → works? g S ≡ true → (k : ℕ) → k < g .n → away S (orderOf g S) k ≡ true
   unfolding works?
   all-away S e k q =
-      not-not (away S (orderOf g S) k) (none-of-zero (g .n) (λ j. not (away S (orderOf g S) j)) (eqb-true _ 0 e) k q)
-    where
-      not-not : (b : Bool) → not b ≡ false → b ≡ true
-      not-not true f = refl
-      not-not false f = absurd (true≢false f)
+      not-false (away S (orderOf g S) k) (none-of-zero (g .n) (λ j. not (away S (orderOf g S) j)) (eqb-true _ 0 e) k q)
 
   abbrev pub plan-of : (S : Group) → ((k : ℕ) → S k ≡ true → k < g .n) → works? g S ≡ true → Plan g
   unfolding orderOf

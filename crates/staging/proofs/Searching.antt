@@ -1,6 +1,6 @@
 -- The search from the highest number down finds, of all groups that work, one of the least cost, and of those the highest number.
 use mathlib.Core.Path.{_≡_, refl, sym, ap, _∙_}
-use mathlib.Core.Bool.{Bool, true, false, not, _&&_, cond, false≢true}
+use mathlib.Core.Bool.{Bool, true, false, not, _&&_, cond, false≢true, and-eq-true-iff}
 use Prim.Native.Nat.{ℕ, zero, suc, _+_, _*_, _≤_, _<_}
 use native.Mathlib.Omega.{arith}
 use native.Mathlib.Decide.{ℕ-discrete}
@@ -108,11 +108,7 @@ module _ (g : Graph) (t : ℕ) (to : t ≤ everyone (g .n)) (w : works? g (has t
   number = numberOf (g .n) rest
 
   rest-of-number : has number ≡ rest
-  rest-of-number = group-of-number (g .n) rest (λ k e. movers-only k (first-passes (has t k) (freeOf g k) e))
-    where
-      first-passes : (x y : Bool) → (x && not y) ≡ true → x ≡ true
-      first-passes true y e = refl
-      first-passes false y e = e
+  rest-of-number = group-of-number (g .n) rest (λ k e. movers-only k (and-eq-true-iff (has t k) (not (freeOf g k)) .0 e .0))
 
   number-apart : Apart g number
   unfolding apart?

@@ -22,7 +22,7 @@ pub sum-both : (n : ℕ) (S : Group) (f h : ℕ → ℕ) → sumOver n S (λ k. 
 sum-both zero S f h = refl
 sum-both (suc n) S f h = omega (arith, cond-both (S n) (f n) (h n), sum-both n S f h)
 
-cond-le : (b : Bool) (x : ℕ) → cond b x 0 ≤ x
+pub cond-le : (b : Bool) (x : ℕ) → cond b x 0 ≤ x
 cond-le true x = omega arith
 cond-le false x = omega arith
 

@@ -78,11 +78,6 @@ everyone n = 2 ^ n - 1
 unfoldable pub chosenOf : Graph → ℕ
 chosenOf g = bestBelow g (everyone (g .n)) (everyone (g .n))
 
--- the members of a group below n, highest first: by ascending tenant number
-abbrev pub members : ℕ → Group → List ℕ
-members zero S = []
-members (suc n) S = cond (S n) (n ∷ members n S) (members n S)
-
 -- the movers as the program has them
 abbrev pub graphOf : Movers → Graph
 graphOf m = record { n = m .n; waits = λ k j. has (getD (m .waits) k 0) j; pages = λ k. getD (m .pages) k 0 }
