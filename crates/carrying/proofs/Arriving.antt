@@ -30,9 +30,9 @@ lies-on-new T′ L (u ∷ us) v e = by-test (among v us) refl (one-or-other v u 
     by-test false f (inl same) rest = lies-as-before T′ (laid L u (nodeAt T′ u)) us v f ∙ here same
     by-test false f (inr there) rest = rest there
 
--- who is not the newcomer and has a node is not named as one
-newcomer-named : (T′ : List ℕ) (t : ℕ) → among t (newcomerIn T′ t) ≡ false → nodeAt T′ t ≡ 0
-newcomer-named T′ t = by-test (eqb (nodeAt T′ t) 0) refl
+-- t has no node afterwards if it is not named as the newcomer
+nothing-if-not-named : (T′ : List ℕ) (t : ℕ) → among t (newcomerIn T′ t) ≡ false → nodeAt T′ t ≡ 0
+nothing-if-not-named T′ t = by-test (eqb (nodeAt T′ t) 0) refl
   where
     by-test : (b : Bool) → eqb (nodeAt T′ t) 0 ≡ b → among t (cond b [] (t ∷ [])) ≡ false → nodeAt T′ t ≡ 0
     by-test true e f = eqb-true (nodeAt T′ t) 0 e
@@ -56,7 +56,7 @@ module _ {h t : ℕ} {T T′ : List ℕ} {ms : List Move} (M : Moving h t T T′
       not-laid : among u (everybodyIn p T′ t) ≡ false → Dec (u ≡ t) → liftedOut t T (p .staged) u ≡ nodeAt T′ u
       not-laid out (yes same) =
           let named = not-in-parts u (p .direct ++ p .staged) (newcomerIn T′ t) out .1 in
-          let nothing = newcomer-named T′ t (ap (λ (v : ℕ). among v (newcomerIn T′ t)) (sym same) ∙ named) in
+          let nothing = nothing-if-not-named T′ t (ap (λ (v : ℕ). among v (newcomerIn T′ t)) (sym same) ∙ named) in
           ap (λ (b : Bool). cond b 0 (nodeAt T u)) (by-name same) ∙ sym (ap (nodeAt T′) same ∙ nothing)
         where
           by-name : u ≡ t → (eqb u t || among u (p .staged)) ≡ true

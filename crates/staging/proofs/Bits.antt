@@ -53,9 +53,6 @@ digit-of-one s e = eq-eqb (s / 1 % 2) 1 (omega arith)
 digit-of-zero : (s : ℕ) → s % 2 ≡ 0 → has s 0 ≡ false
 digit-of-zero s e = ne-eqb (s / 1 % 2) 1 (λ f. absurd (omega arith))
 
-one-of-digit : (s : ℕ) → has s 0 ≡ true → s % 2 ≡ 1
-one-of-digit s e = let one = eqb-true (s / 1 % 2) 1 e in omega arith
-
 -- the number of all movers has every digit below n
 pub everyone-has : (n k : ℕ) → k < n → has (everyone n) k ≡ true
 everyone-has zero k q = absurd (omega arith)

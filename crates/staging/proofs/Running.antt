@@ -54,7 +54,7 @@ pub away-keeps : (A : Group) (ks : List ℕ) (j : ℕ) → A j ≡ true → away
 away-keeps A [] j e = e
 away-keeps A (k ∷ ks) j e = away-keeps (joined A k) ks j (joined-keeps A k j e)
 
--- what is in both A and B's part stays in it
+-- B has A and k if it has A, and k
 joined-within : (A B : Group) (k : ℕ) → ((j : ℕ) → A j ≡ true → B j ≡ true) → B k ≡ true → (j : ℕ) → joined A k j ≡ true → B j ≡ true
 joined-within A B k within at-k j e = by-test (eqb j k) refl e
   where
