@@ -1,12 +1,14 @@
 //! That all planners give the same answers, tables, moves and maps, before anything is timed.
 
 use oracle::generate;
+use oracle::page_map::MAP_BYTES;
 use oracle::planner::Request;
 use oracle::random::Random;
 use oracle::subject::{Reach, TABLE_BYTES};
 use same::door::Outcome;
 
 use crate::contestant::{Contestant, Library, Same, Second};
+use crate::counting;
 use crate::history::{counted, Counted};
 use crate::input::{Ask, Input, Lent};
 use crate::plot;
@@ -15,6 +17,10 @@ use crate::rows::{rows, Row, SEED};
 /// The calls of each random history, of which there is one for each height.
 const CALLS: usize = 300;
 
+/// The lengths of the maps that are counted besides, and how many there are of each.
+const MAP_LENGTHS: [usize; 5] = [0, MAP_BYTES - 1, MAP_BYTES, MAP_BYTES + 1, 2 * MAP_BYTES];
+const MAPS: usize = 200;
+
 /// How many calls came out the same, or the first that did not.
 pub type Checked = Result<usize, String>;
 
@@ -22,7 +28,7 @@ pub type Checked = Result<usize, String>;
 pub fn check() -> Checked {
     let mut random = Random::new(SEED);
     let mut calls = 0;
-    for Row { inputs, .. } in rows().iter().chain(&plot::rows()) {
+    for Row { inputs, .. } in rows().iter().chain(&plot::rows()).chain(&counting::rows()) {
         calls += check_inputs(inputs)?;
     }
     for Counted {
@@ -37,6 +43,9 @@ pub fn check() -> Checked {
     for height in 0..=12 {
         let asks = random_asks(height, &mut random);
         calls += check_history(height, &asks, &mut random)?;
+    }
+    for length in MAP_LENGTHS {
+        calls += check_maps(length, &mut random)?;
     }
     Ok(calls)
 }
@@ -60,6 +69,32 @@ fn check_history(height: u16, asks: &[Ask], random: &mut Random) -> Checked {
         compare(height, ask, &damaged)?;
     }
     Ok(4 * asks.len())
+}
+
+/// Counts maps of bytes drawn at random.
+fn check_maps(length: usize, random: &mut Random) -> Checked {
+    for _ in 0..MAPS {
+        same_counts(&random.bytes(length))?;
+    }
+    Ok(MAPS)
+}
+
+/// Whether a map is counted alike by all, byte by byte too.
+fn same_counts(map: &[u8]) -> Result<(), String> {
+    let wanted = Second::count(map);
+    for (name, counted) in [
+        ("the library", Library::count(map)),
+        ("the same algorithm in Rust", Same::count(map)),
+        ("the count byte by byte", counting::bytewise(map)),
+    ] {
+        if counted != wanted {
+            let length = map.len();
+            return Err(format!(
+                "a map of {length} bytes: {name} gives {counted:?}, the second planner {wanted:?}"
+            ));
+        }
+    }
+    Ok(())
 }
 
 /// Calls that the second planner's author thinks up, arguments out of range among them.
@@ -89,6 +124,9 @@ fn random_asks(height: u16, random: &mut Random) -> Vec<Ask> {
 
 /// The bytes after a call, if all planners report and write the same.
 fn compare(height: u16, ask: Ask, lent: &Lent) -> Result<Lent, String> {
+    if ask == Ask::Count {
+        same_counts(&lent.map)?;
+    }
     let (wanted, after) = answer::<Second>(height, ask, lent);
     for (name, (reported, written)) in [
         ("the library", answer::<Library>(height, ask, lent)),

@@ -10,17 +10,18 @@ use oracle::subject::TABLE_BYTES;
 use same::door::Outcome;
 
 use crate::contestant::{Contestant, Library, Same};
+use crate::counting::{self, WAYS};
 use crate::history::{counted, Counted};
-use crate::input::{Ask, Lent};
+use crate::input::{Ask, Lent, Map};
 use crate::pass::bare_pass;
 use crate::rows::rows;
 
 /// One call, and the instructions that it took.
 #[derive(Clone, Debug)]
 pub struct Count {
-    /// `library`, `same` or `pass`.
+    /// `library`, `same`, `bytewise` or `pass`.
     pub who: String,
-    /// `row` for a row of the table, else `history` or `most-moves`.
+    /// `row` for a row of the calls, `map` for one of the maps, else `history` or `most-moves`.
     pub set: String,
     /// The place of the row, or the height.
     pub place: usize,
@@ -34,6 +35,7 @@ pub struct Count {
 pub fn make_calls() {
     let rows = rows();
     let counted = counted();
+    let maps = counting::rows();
     // Planners were asked up to here too, to find out what comes of the calls.
     mark();
     for (place, row) in rows.iter().enumerate() {
@@ -58,6 +60,20 @@ pub fn make_calls() {
     black_box(bare_pass(black_box(&[0; TABLE_BYTES])));
     mark();
     println!("pass row 0 pass 0 0");
+    for (place, row) in maps.iter().enumerate() {
+        for input in &row.inputs {
+            every_way(place, &input.lent.map);
+        }
+    }
+}
+
+/// Goes over a map in every way.
+fn every_way(place: usize, map: &Map) {
+    for (who, way) in WAYS {
+        way(black_box(map));
+        mark();
+        println!("{who} map {place} count 0 0");
+    }
 }
 
 /// Puts a call to both planners, and gives the bytes that it leaves.

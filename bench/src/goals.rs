@@ -2,6 +2,7 @@
 
 use std::error::Error;
 
+use crate::counting::BYTEWISE;
 use crate::counts::Count;
 use crate::rows::{Row, CALLS, HEIGHTS};
 use crate::stats::median;
@@ -51,6 +52,24 @@ pub fn of_times(rows: &[Row], figures: &[Figures]) -> Vec<Goal> {
         ),
     ];
     goals.into_iter().flatten().collect()
+}
+
+/// That a map is counted in no more time than byte by byte, for the worst map.
+pub fn of_map_times(maps: &[Row], figures: &[Figures]) -> Option<Goal> {
+    let places = maps.iter().zip(figures);
+    let ratios = places.map(|(row, figures)| (figures.ratio(BYTEWISE), row.name()));
+    Goal::worst("count ÷ count byte by byte, time", 1.0, ratios)
+}
+
+/// That a map is counted in no more instructions than byte by byte, for the worst map.
+pub fn of_map_counts(maps: &[Row], counts: &[Count]) -> Option<Goal> {
+    let ratios = maps.iter().enumerate().flat_map(|(place, row)| {
+        let [library, bytewise] = ["library", "bytewise"].map(|who| of_row(counts, "map", place, who));
+        library
+            .zip(bytewise)
+            .map(|(library, bytewise)| (library / bytewise, row.name()))
+    });
+    Goal::worst("count ÷ count byte by byte, instructions", 1.0, ratios)
 }
 
 /// The goals that instructions decide: by call and height against the same algorithm in Rust and against the bare
@@ -121,14 +140,19 @@ fn of_rows<'a>(
 ) -> impl Iterator<Item = (&'a Row, f64, f64)> + 'a {
     let rows = rows.iter().enumerate().filter(move |(_, row)| chosen(row));
     rows.flat_map(move |(place, row)| {
-        let both = of_row(counts, place, "library").zip(of_row(counts, place, "same"));
+        let both = of_row(counts, "row", place, "library").zip(of_row(counts, "row", place, "same"));
         both.map(move |(library, same)| (row, library, same))
     })
 }
 
-/// The instructions that somebody took for each input of a row, by its place.
-pub fn of_row<'a>(counts: &'a [Count], place: usize, who: &'a str) -> impl Iterator<Item = f64> + 'a {
-    let chosen = move |count: &&Count| count.set == "row" && count.place == place && count.who == who;
+/// The instructions that somebody took for each input of a row, by its place among the rows of calls or of maps.
+pub fn of_row<'a>(
+    counts: &'a [Count],
+    set: &'a str,
+    place: usize,
+    who: &'a str,
+) -> impl Iterator<Item = f64> + use<'a> {
+    let chosen = move |count: &&Count| count.set == set && count.place == place && count.who == who;
     counts.iter().filter(chosen).map(|count| count.instructions as f64)
 }
 

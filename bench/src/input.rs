@@ -7,6 +7,7 @@ use same::door::Outcome;
 use crate::contestant::Contestant;
 
 pub type Table = [u8; TABLE_BYTES];
+pub type Map = [u8; MAP_BYTES];
 
 /// What a planner is asked.
 #[derive(Clone, Copy, Debug, PartialEq, Eq)]
@@ -24,7 +25,7 @@ pub enum Ask {
 pub struct Lent {
     pub table: Table,
     pub moves: [u8; FEWEST_MOVE_BYTES],
-    pub map: [u8; MAP_BYTES],
+    pub map: Map,
 }
 
 /// A call that is timed.

@@ -9,6 +9,7 @@
 
 mod check;
 mod contestant;
+mod counting;
 mod counts;
 mod goals;
 mod history;
@@ -73,6 +74,7 @@ fn check() -> Result<bool> {
 fn time(rounds: &str, program: &str) -> Result<bool> {
     let mut rows = rows::rows();
     rows.append(&mut plot::rows());
+    rows.append(&mut counting::rows());
     timing::time(&rows, rounds.parse()?, program);
     Ok(true)
 }
@@ -85,7 +87,8 @@ fn read_counts(dir: &Path) -> Result<Vec<Count>> {
 
 fn goals(dir: &Path) -> Result<bool> {
     let counts = read_counts(dir)?;
-    let goals = goals::of_counts(&rows::rows(), &counts);
+    let mut goals = goals::of_counts(&rows::rows(), &counts);
+    goals.extend(goals::of_map_counts(&counting::rows(), &counts));
     for goal in &goals {
         let verdict = if goal.is_met() { "met" } else { "missed" };
         println!(
@@ -102,13 +105,18 @@ fn report(dir: &Path) -> Result<bool> {
     let counts = read_counts(dir)?;
     let rows = rows::rows();
     let plotted = plot::rows();
+    let maps = counting::rows();
     let times = fs::read_to_string(dir.join("times.txt"))?;
-    let figures = timing::read(&times, rows.len() + plotted.len())?;
-    let (of_rows, of_plot) = figures.split_at(rows.len());
-    let inputs: usize = rows.iter().chain(&plotted).map(|row| row.inputs.len()).sum();
+    let figures = timing::read(&times, rows.len() + plotted.len() + maps.len())?;
+    let (of_rows, others) = figures.split_at(rows.len());
+    let (of_plot, of_maps) = others.split_at(plotted.len());
+    let timed = rows.iter().chain(&plotted).chain(&maps);
+    let inputs: usize = timed.map(|row| row.inputs.len()).sum();
     let stack = fs::read_to_string(dir.join("stack.txt"))?;
     let mut goals = goals::of_times(&rows, of_rows);
+    goals.extend(goals::of_map_times(&maps, of_maps));
     goals.append(&mut goals::of_counts(&rows, &counts));
+    goals.extend(goals::of_map_counts(&maps, &counts));
     goals.push(goals::of_stack(&stack)?);
     let mut text = String::new();
     let findings = Findings {
@@ -116,6 +124,8 @@ fn report(dir: &Path) -> Result<bool> {
         rounds: times.lines().count() / inputs,
         rows: &rows,
         figures: of_rows,
+        maps: &maps,
+        map_figures: of_maps,
         counts: &counts,
         goals: &goals,
         stack: &stack,

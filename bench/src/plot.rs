@@ -7,7 +7,7 @@ use oracle::random::Random;
 use crate::input::Ask;
 use crate::reserve::{ones, Reserve};
 use crate::rows::{outcome_of, Row, SEED};
-use crate::timing::{Figures, LIBRARY, PASS, SAME, SECOND};
+use crate::timing::{Figures, LIBRARY, PASS, PLANNERS, SAME, SECOND};
 
 /// The height of the reserve, and the most tenants in it.
 const HEIGHT: u16 = 12;
@@ -34,6 +34,7 @@ pub fn rows() -> Vec<Row> {
                     reserve: "single pages",
                     outcome: tenants.to_string(),
                     inputs: vec![input],
+                    batches: PLANNERS,
                 });
             }
         }

@@ -2,6 +2,7 @@
 
 use std::fmt::{self, Write};
 
+use crate::counting::WAYS;
 use crate::counts::Count;
 use crate::goals::{of_row, pass_of, stack_uses, Goal, Longest};
 use crate::rows::{Row, HEIGHTS, SEED};
@@ -15,6 +16,8 @@ pub struct Findings<'a> {
     pub rounds: usize,
     pub rows: &'a [Row],
     pub figures: &'a [Figures],
+    pub maps: &'a [Row],
+    pub map_figures: &'a [Figures],
     pub counts: &'a [Count],
     pub goals: &'a [Goal],
     /// What each function uses, a line for each.
@@ -31,6 +34,7 @@ pub fn write(out: &mut String, findings: &Findings) -> fmt::Result {
     for height in HEIGHTS.into_iter().rev() {
         rows(out, height, findings)?;
     }
+    maps(out, findings)?;
     longest(out, findings)?;
     stack(out, findings.stack)
 }
@@ -76,7 +80,7 @@ fn rows(out: &mut String, height: u16, findings: &Findings) -> fmt::Result {
         let (call, reserve, outcome) = (row.call, row.reserve, &row.outcome);
         let times = time_cells(figures).join(" | ");
         // Rounded as they are printed, so that the ratios are their quotients.
-        let [library, same] = ["library", "same"].map(|who| median(of_row(findings.counts, place, who)).round());
+        let [library, same] = ["library", "same"].map(|who| median(of_row(findings.counts, "row", place, who)).round());
         let counts = [
             thousands(library),
             thousands(same),
@@ -85,6 +89,27 @@ fn rows(out: &mut String, height: u16, findings: &Findings) -> fmt::Result {
         ];
         let counts = counts.join(" | ");
         writeln!(out, "| {call} | {reserve} | {outcome} | {times} | {counts} |")?;
+    }
+    Ok(())
+}
+
+fn maps(out: &mut String, findings: &Findings) -> fmt::Result {
+    writeln!(out, "\n### Counting a map\n")?;
+    let others = "Rust is its `count_ones` on `u64`, and the pass is over the map";
+    writeln!(out, "The library takes 64 bits at a time; {others}.\n")?;
+    let times = "Library, ns | Rust, ns | Byte by byte, ns | Pass, ns";
+    let counts = "Library, instructions | Rust | Byte by byte | Pass";
+    let ratios = "Library ÷ Rust | ÷ byte by byte | ÷ pass";
+    writeln!(out, "| Map | {times} | {ratios} | {counts} | {ratios} |")?;
+    writeln!(out, "|---|{}", "---:|".repeat(14))?;
+    let lines = findings.maps.iter().zip(findings.map_figures).enumerate();
+    for (place, (row, figures)) in lines {
+        let times = time_cells(figures).join(" | ");
+        let counts = WAYS.map(|(who, _)| median(of_row(findings.counts, "map", place, who)).round());
+        let [library, others @ ..] = counts;
+        let ratios = others.map(|other| number(library / other)).join(" | ");
+        let counts = counts.map(thousands).join(" | ");
+        writeln!(out, "| {} | {times} | {counts} | {ratios} |", row.reserve)?;
     }
     Ok(())
 }

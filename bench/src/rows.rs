@@ -7,6 +7,7 @@ use same::door::Outcome;
 use crate::contestant::Library;
 use crate::input::{Ask, Input};
 use crate::reserve::{mixed, ones, Reserve};
+use crate::timing::{Batch, CONTESTANTS, PLANNERS};
 
 /// The heights that are timed.
 pub const HEIGHTS: [u16; 2] = [6, 12];
@@ -27,6 +28,8 @@ pub struct Row {
     pub reserve: &'static str,
     pub outcome: String,
     pub inputs: Vec<Input>,
+    /// Who is timed on the inputs, the library first.
+    pub batches: [Batch; CONTESTANTS],
 }
 
 impl Row {
@@ -119,6 +122,7 @@ fn by_outcome(call: &'static str, reserve: &'static str, inputs: Vec<Input>) -> 
                 reserve,
                 outcome,
                 inputs: vec![input],
+                batches: PLANNERS,
             }),
         }
     }

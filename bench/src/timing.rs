@@ -7,7 +7,7 @@ use std::hint::black_box;
 use std::time::Instant;
 
 use crate::contestant::{Contestant, Library, Same, Second};
-use crate::input::{Ask, Input, Lent};
+use crate::input::{Ask, Input, Lent, Map};
 use crate::pass::bare_pass;
 use crate::rows::{outcome_of, Row};
 use crate::stats::{mean, mean_of_smaller_half, Quartiles};
@@ -26,7 +26,11 @@ pub const SECOND: usize = 2;
 pub const PASS: usize = 3;
 pub const CONTESTANTS: usize = 4;
 
-const BATCHES: [fn(&Input) -> f64; CONTESTANTS] = [batch::<Library>, batch::<Same>, second, pass];
+/// Nanoseconds per call of one contestant, over some calls.
+pub type Batch = fn(&Input) -> f64;
+
+/// The planners, and the bare pass over the table.
+pub const PLANNERS: [Batch; CONTESTANTS] = [batch::<Library>, batch::<Same>, second, pass];
 
 /// The figures of a row over all rounds.
 pub struct Figures {
@@ -49,7 +53,7 @@ pub fn time(rows: &[Row], rounds: usize, program: &str) {
     for round in 0..rounds {
         for (place, row) in rows.iter().enumerate() {
             for (input, asked) in row.inputs.iter().enumerate() {
-                let numbers = sample(asked, round).map(|time| time.to_string());
+                let numbers = sample(&row.batches, asked, round).map(|time| time.to_string());
                 println!("{program} {place} {input} {}", numbers.join(" "));
             }
         }
@@ -58,11 +62,11 @@ pub fn time(rows: &[Row], rounds: usize, program: &str) {
 
 /// The contestants are asked one after the other, so that the machine's load is the same for them. Who begins changes
 /// with the round.
-fn sample(input: &Input, round: usize) -> Sample {
+fn sample(batches: &[Batch; CONTESTANTS], input: &Input, round: usize) -> Sample {
     let mut times = [0.0; CONTESTANTS];
     for turn in 0..CONTESTANTS {
         let who = (round + turn) % CONTESTANTS;
-        times[who] = BATCHES[who](input);
+        times[who] = batches[who](input);
     }
     times
 }
@@ -109,6 +113,11 @@ pub const WHOLE_FROM: f64 = 1000.0;
 fn as_printed(time: f64) -> f64 {
     let parts = if time < WHOLE_FROM { 10.0 } else { 1.0 };
     (time * parts).round() / parts
+}
+
+/// The ways of going over a map leave it as it is.
+pub fn map_batch(input: &Input, way: fn(&Map)) -> f64 {
+    per_call::<COPIES>(input, LAPS, |lent| way(black_box(&lent.map)))
 }
 
 fn batch<C: Contestant>(input: &Input) -> f64 {

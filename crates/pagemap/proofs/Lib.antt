@@ -1,6 +1,7 @@
 pub mod Covered
 pub mod Bits
 pub mod SetBits
+pub mod Numbers
 pub mod Theorems
 pub mod Filled
 pub mod Flags

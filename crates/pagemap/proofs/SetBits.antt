@@ -6,8 +6,7 @@ use native.Mathlib.Nat.{mul-zero, mul-suc}
 use native.Mathlib.Omega.{arith}
 use lib.Count.{ones}
 use lib.Dec.{eqb}
-use lib.ListN.{length, getD, drop, drop-of-length-le}
-use lib.Seq.{drop-cons}
+use lib.ListN.{length, getD}
 use Rattle.tree.specs.Held.{one-if, count}
 use Rattle.tree.specs.Pages.{sum}
 use Rattle.tree.proofs.Sum.{sum-first, sum-cong, sum-split, count-as-sum}
@@ -17,15 +16,7 @@ use Rattle.pagemap.proofs.Bits.{bit, ones-by-bits}
 
 -- ---- byte by byte
 
-pub set-bits-from : (m : List ℕ) (i : ℕ) → i < length m → setBits (drop i m) ≡ ones (getD m i 0) + setBits (drop (suc i) m)
-unfolding setBits
-set-bits-from m i q = rw (drop-cons m i 0 q)
-
-pub set-bits-from-end : (m : List ℕ) (i : ℕ) → length m ≤ i → setBits (drop i m) ≡ 0
-unfolding setBits
-set-bits-from-end m i q = rw (drop-of-length-le m q)
-
-set-bits-as-sum : (m : List ℕ) → setBits m ≡ sum (length m) (λ j. ones (getD m j 0))
+pub set-bits-as-sum : (m : List ℕ) → setBits m ≡ sum (length m) (λ j. ones (getD m j 0))
 unfolding setBits sum
 set-bits-as-sum [] = refl
 set-bits-as-sum (x ∷ m) = ap (λ (n : ℕ). ones x + n) (set-bits-as-sum m) ∙ sym (sum-first (length m) (λ j. ones (getD (x ∷ m) j 0)))
@@ -33,7 +24,7 @@ set-bits-as-sum (x ∷ m) = ap (λ (n : ℕ). ones x + n) (set-bits-as-sum m) �
 -- ---- page by page
 
 -- n groups of w numbers each
-sum-by-groups : (w n : ℕ) (f : ℕ → ℕ) → sum n (λ j. sum w (λ b. f (w * j + b))) ≡ sum (w * n) f
+pub sum-by-groups : (w n : ℕ) (f : ℕ → ℕ) → sum n (λ j. sum w (λ b. f (w * j + b))) ≡ sum (w * n) f
 unfolding sum
 sum-by-groups w zero f = rw (mul-zero w)
 sum-by-groups w (suc n) f = rw (mul-suc w n) (omega (arith, sum-by-groups w n f, sum-split (w * n) w f))

@@ -7,12 +7,13 @@ use Prim.Native.Nat.{ℕ, suc, _*_, _/_, _%_, _^_, _≤_, _<_}
 use native.Mathlib.Decide.{decLt}
 use native.Mathlib.Omega.{arith}
 use borrow.Author.Tests.{le-ltb}
+use lib.Count.{ones}
 use lib.Dec.{eqb}
 use lib.ListN.{length, getD, take, length-append, length-take, List·getD-eq-default}
 use lib.Seq.{take-at, getD-take, length-take-le}
 use Rattle.tree.specs.Held.{one-if, count}
 use Rattle.tree.specs.Block.{Blocks, blocksOf, bsizes}
-use Rattle.tree.specs.Pages.{pagesOf}
+use Rattle.tree.specs.Pages.{sum, pagesOf}
 use Rattle.tree.proofs.Bridge.{legal-blocks}
 use Rattle.tree.proofs.Sets.{set-of-blocks}
 use Rattle.tree.proofs.Sizes.{sizes-of-blocks, sizes-above}
@@ -27,9 +28,11 @@ use Rattle.table.proofs.Occupied.{occupied-within}
 use Rattle.table.proofs.Order.{in-order-counts}
 use Rattle.pagemap.specs.Map.{bitOf, covered, HeldOver, pageMap}
 use Rattle.pagemap.specs.Count.{setBits, counted}
+use Rattle.pagemap.specs.Numbers.{numberAt}
 use Rattle.pagemap.proofs.Covered.{covered-iff, covered-in-reserve}
 use Rattle.pagemap.proofs.Bits.{bytes-length, byte-below-256, bit-of-bytes}
 use Rattle.pagemap.proofs.SetBits.{set-bits-by-page}
+use Rattle.pagemap.proofs.Numbers.{set-bits-by-number}
 
 one-if-is-one : (b : Bool) → eqb (one-if b) 1 ≡ b
 one-if-is-one true = refl
@@ -88,6 +91,12 @@ counted-by-page m bytes long = rw (le-ltb (length m) 512 long, set-bits)
         set-bits-by-page first (byte-of-first 512 m bytes)
         ∙ ap (λ (n : ℕ). count (8 * n) (bitOf first)) (length-take-le 512 m long)
         ∙ count-cong 4096 (bitOf first) (bitOf m) (λ p q. bit-of-first 512 m p (omega arith))
+
+-- and 64 ones counts are enough for it: those of its numbers of 64 bits. Document 02, L3
+pub counted-by-number : (m : List ℕ) → ((j : ℕ) → getD m j 0 < 256) → 512 ≤ length m
+    → counted m ≡ record { answer = 0; count = sum 64 (λ k. ones (numberAt m k)) }
+unfolding counted
+counted-by-number m bytes long = rw (le-ltb (length m) 512 long, set-bits-by-number m bytes 64 long)
 
 module _ (h : ℕ) (T : List ℕ) (low : h ≤ 12) (o : InOrder h T) where
   -- the pages that the held blocks cover are as many as the blocks have

@@ -11,6 +11,9 @@ use crate::subject::{table_image, Oracle, Subject};
 /// The lengths of maps worth trying.
 const MAP_LENGTHS: [usize; 6] = [0, 1, MAP_BYTES - 1, MAP_BYTES, MAP_BYTES + 1, 2 * MAP_BYTES];
 
+/// So many places next to each other are tried as the beginning of a map: as many as a vector register has bytes.
+const PLACES: usize = 16;
+
 /// Has both planners draw into lent bytes of a length, and count what was drawn.
 pub fn same_map(subject: &mut dyn Subject, height: u32, table: &[u8], length: usize) -> Result<(), String> {
     let mut right_map = pattern(length);
@@ -51,6 +54,44 @@ pub fn maps(subject: &mut dyn Subject, amounts: &Amounts, random: &mut Random) -
         }
     }
     Ok(comparisons)
+}
+
+/// Counts of maps that nobody drew: each bit alone and each bit missing, each byte behind the map, and random maps of all
+/// lengths, which begin anywhere in memory.
+pub fn counts(subject: &mut dyn Subject, amounts: &Amounts, random: &mut Random) -> Result<usize, String> {
+    let mut comparisons = 0;
+    for fill in [0, 0xff] {
+        for page in 0..8 * MAP_BYTES {
+            let mut map = vec![fill; MAP_BYTES];
+            map[page / 8] ^= 1 << (page % 8);
+            same_count(subject, &map).map_err(|finding| format!("  page {page} alone among {fill}: {finding}"))?;
+            comparisons += 1;
+        }
+    }
+    for place in MAP_BYTES..2 * MAP_BYTES {
+        let mut map = vec![0; 2 * MAP_BYTES];
+        map[place] = 0xff;
+        same_count(subject, &map).map_err(|finding| format!("  byte {place} alone: {finding}"))?;
+        comparisons += 1;
+    }
+    for round in 0..amounts.maps {
+        for length in MAP_LENGTHS {
+            let start = round % PLACES;
+            let bytes = sparse_or_dense(random, start + length);
+            same_count(subject, &bytes[start..])
+                .map_err(|finding| format!("  {:?}, from byte {start} on: {finding}", &bytes[start..]))?;
+            comparisons += 1;
+        }
+    }
+    Ok(comparisons)
+}
+
+/// Bytes with a quarter, half or three quarters of their bits set.
+fn sparse_or_dense(random: &mut Random, length: usize) -> Vec<u8> {
+    let [one, other] = [random.bytes(length), random.bytes(length)];
+    let combine = random.pick(&[|one, _| one, |one, other| one & other, |one, other| one | other]);
+    let pairs = one.into_iter().zip(other);
+    pairs.map(|(one, other): (u8, u8)| combine(one, other)).collect()
 }
 
 /// Heights, tables and maps that are wrong in all combinations.

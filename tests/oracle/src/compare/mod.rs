@@ -94,7 +94,7 @@ pub struct Tally {
 /// One part of the comparison. It gives the number of comparisons, or what it found.
 type Part = fn(&mut dyn Subject, &Amounts, &mut Random) -> Result<usize, String>;
 
-const PARTS: [(&str, Part); 11] = [
+const PARTS: [(&str, Part); 12] = [
     ("edges of the arguments", edges::edges),
     ("every counts vector", calls::every_counts),
     ("histories", calls::histories),
@@ -106,6 +106,7 @@ const PARTS: [(&str, Part); 11] = [
     ("journals", journals::journals),
     ("pages of nodes", nodes::nodes),
     ("edges of the sizes", edges::sizes),
+    ("counts of maps", maps::counts),
 ];
 
 /// The random numbers of one part, the same whichever parts ran before.

@@ -68,9 +68,13 @@ pub enum Fault {
     // Maps.
     BitsFromTheTop,
     WholeMapDrawn,
-    WholeMapCounted,
     AnyTableDrawn,
     MapBeforeTheTable,
+    // Their counts.
+    WholeMapCounted,
+    LastNumberLeftOut,
+    HighBitShiftedOut,
+    ShortMapCounted,
     // The journal.
     FirstKindBeforeLength,
     EndBeforeTheWholeJournal,
@@ -142,12 +146,17 @@ impl Fault {
         Fault::PagesOfNodeZero,
         Fault::NodePastTheTreeTaken,
     ];
-    pub const MAPS: [Fault; 5] = [
+    pub const MAPS: [Fault; 4] = [
         Fault::BitsFromTheTop,
         Fault::WholeMapDrawn,
-        Fault::WholeMapCounted,
         Fault::AnyTableDrawn,
         Fault::MapBeforeTheTable,
+    ];
+    pub const COUNTS: [Fault; 4] = [
+        Fault::WholeMapCounted,
+        Fault::LastNumberLeftOut,
+        Fault::HighBitShiftedOut,
+        Fault::ShortMapCounted,
     ];
     pub const JOURNALS: [Fault; 11] = [
         Fault::FirstKindBeforeLength,
@@ -586,11 +595,19 @@ impl Subject for Faulty {
     }
 
     fn count(&mut self, map: &[u8]) -> Count {
-        let mut count = Oracle.count(map);
-        if self.0 == Fault::WholeMapCounted && count.answer == DONE {
-            count.pages = map.iter().map(|byte| byte.count_ones()).sum();
-        }
-        count
+        let count = Oracle.count(map);
+        let ones = |bytes: &[u8]| bytes.iter().map(|byte| byte.count_ones()).sum();
+        let pages = match self.0 {
+            Fault::WholeMapCounted if count.answer == DONE => ones(map),
+            Fault::LastNumberLeftOut if count.answer == DONE => ones(&map[..MAP_BYTES - 8]),
+            Fault::HighBitShiftedOut if count.answer == DONE => {
+                let numbers = map[..MAP_BYTES].as_chunks().0.iter().copied().map(u64::from_be_bytes);
+                numbers.map(|number| (number << 1).count_ones()).sum()
+            }
+            Fault::ShortMapCounted if map.len() == MAP_BYTES - 1 => ones(map),
+            _ => return count,
+        };
+        Count { answer: DONE, pages }
     }
 
     fn read(&mut self, journal: &[u8], offset: usize) -> Reading {
