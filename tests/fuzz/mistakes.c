@@ -9,6 +9,7 @@ struct reserve_outcome __real_reserve_grant_pages(uint16_t height, uint8_t *tabl
 struct reserve_outcome __real_reserve_release(uint16_t height, uint8_t *table, size_t table_length, uint8_t *moves,
                                               size_t moves_length, uint16_t tenant);
 uint16_t __real_reserve_draw(uint16_t height, const uint8_t *table, size_t table_length, uint8_t *map, size_t map_length);
+struct reserve_counted __real_reserve_count(const uint8_t *map, size_t map_length);
 struct reserve_reading __real_reserve_read(const uint8_t *journal, size_t journal_length, size_t offset);
 
 /* A number of two bytes. */
@@ -65,5 +66,14 @@ struct reserve_reading __wrap_reserve_read(const uint8_t *journal, size_t journa
     struct reserve_reading got = __real_reserve_read(journal, journal_length, offset);
     if (MISTAKE == 7 && got.answer == RESERVE_REFUSED_CUT_OFF && journal[offset] == RESERVE_KIND_GRANT_PAGES && offset > 8)
         got.offset = offset + 1;
+    return got;
+}
+
+/* 8: a map that is longer by just eight bytes is counted without the last number of its 512. */
+struct reserve_counted __wrap_reserve_count(const uint8_t *map, size_t map_length) {
+    struct reserve_counted got = __real_reserve_count(map, map_length);
+    if (MISTAKE == 8 && map_length == RESERVE_MAP_BYTES + 8) {
+        for (size_t byte = RESERVE_MAP_BYTES - 8; byte < RESERVE_MAP_BYTES; byte++) got.count -= __builtin_popcount(map[byte]);
+    }
     return got;
 }
