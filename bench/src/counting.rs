@@ -10,7 +10,7 @@ use crate::contestant::{Contestant, Library, Same};
 use crate::input::{Ask, Input, Map};
 use crate::pass::pass_over_map;
 use crate::reserve::{ones, Reserve};
-use crate::rows::{Row, SEED};
+use crate::rows::{Row, INPUTS, SEED};
 use crate::timing::{map_batch, CONTESTANTS, LIBRARY, PASS, SAME};
 
 /// The place of the former way in all figures of maps, where the second planner's is in those of calls.
@@ -42,18 +42,21 @@ fn batch<const WAY: usize>(input: &Input) -> f64 {
     map_batch(input, WAYS[WAY].1)
 }
 
-/// An empty, a half full and a full map.
+/// Empty, half full and full maps.
 pub fn rows() -> Vec<Row> {
     let mut random = Random::new(SEED);
     let pages = 1 << HEIGHT;
     let maps = [("empty", 0), ("half full", pages / 2), ("full", pages)];
-    maps.map(|(reserve, held)| Row {
-        height: HEIGHT,
-        call: "count",
-        reserve,
-        outcome: "done".into(),
-        inputs: vec![Reserve::draw(HEIGHT, &ones(held), &mut random).input(Ask::Count)],
-        batches: [batch::<LIBRARY>, batch::<SAME>, batch::<BYTEWISE>, batch::<PASS>],
-    })
-    .into()
+    let row = |(reserve, held)| {
+        let mut map = || Reserve::draw(HEIGHT, &ones(held), &mut random).input(Ask::Count);
+        Row {
+            height: HEIGHT,
+            call: "count",
+            reserve,
+            outcome: "done".into(),
+            inputs: (0..INPUTS).map(|_| map()).collect(),
+            batches: [batch::<LIBRARY>, batch::<SAME>, batch::<BYTEWISE>, batch::<PASS>],
+        }
+    };
+    maps.map(row).into()
 }

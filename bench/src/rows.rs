@@ -16,7 +16,7 @@ pub const HEIGHTS: [u16; 2] = [6, 12];
 pub const SEED: u64 = 1;
 
 /// The most inputs of a row; its times are means over them, and its instructions medians.
-const INPUTS: usize = 8;
+pub const INPUTS: usize = 8;
 
 /// How many times the holders of a reserve are drawn for a row.
 const SEATINGS: usize = 4;
