@@ -60,7 +60,7 @@ fn main() -> ExitCode {
 fn check() -> Result<bool> {
     match check::check() {
         Ok(calls) => println!(
-            "library, same algorithm and second planner agree on {calls} calls, seed {}",
+            "library, same algorithm, second planner and former count agree on {calls} calls, seed {}",
             rows::SEED
         ),
         Err(difference) => {

@@ -115,7 +115,7 @@ fn as_printed(time: f64) -> f64 {
     (time * parts).round() / parts
 }
 
-/// The ways of going over a map leave it as it is.
+/// One way of going over a map; all of them leave it as it is.
 pub fn map_batch(input: &Input, way: fn(&Map)) -> f64 {
     per_call::<COPIES>(input, LAPS, |lent| way(black_box(&lent.map)))
 }
