@@ -39,7 +39,7 @@ pub fn same_count(subject: &mut dyn Subject, map: &[u8]) -> Result<(), String> {
     Ok(())
 }
 
-/// Maps of tables of all kinds, in lent bytes of all lengths; and counts of bytes that nobody drew.
+/// Maps of tables of all kinds, in lent bytes of all lengths.
 pub fn maps(subject: &mut dyn Subject, amounts: &Amounts, random: &mut Random) -> Result<usize, String> {
     let mut comparisons = map_edges(subject)?;
     for round in 0..amounts.maps {
@@ -49,15 +49,14 @@ pub fn maps(subject: &mut dyn Subject, amounts: &Amounts, random: &mut Random) -
         for length in MAP_LENGTHS {
             same_map(subject, tree.height(), &table, length)
                 .map_err(|finding| format!("  height {}, {counts:?}, {length} bytes: {finding}", tree.height()))?;
-            same_count(subject, &random.bytes(length))?;
-            comparisons += 2;
+            comparisons += 1;
         }
     }
     Ok(comparisons)
 }
 
-/// Counts of maps that nobody drew: each bit alone and each bit missing, each byte behind the map, and random maps of all
-/// lengths, which begin anywhere in memory.
+/// Counts of maps that nobody drew: each bit alone and each bit missing, each byte behind the map, and maps of all lengths
+/// with equal or with random bytes. Random ones begin anywhere in memory.
 pub fn counts(subject: &mut dyn Subject, amounts: &Amounts, random: &mut Random) -> Result<usize, String> {
     let mut comparisons = 0;
     for fill in [0, 0xff] {
@@ -73,6 +72,12 @@ pub fn counts(subject: &mut dyn Subject, amounts: &Amounts, random: &mut Random)
         map[place] = 0xff;
         same_count(subject, &map).map_err(|finding| format!("  byte {place} alone: {finding}"))?;
         comparisons += 1;
+    }
+    for fill in [0, 1, 0x80, 0xff] {
+        for length in MAP_LENGTHS {
+            same_count(subject, &vec![fill; length]).map_err(|finding| format!("  bytes of {fill}: {finding}"))?;
+            comparisons += 1;
+        }
     }
     for round in 0..amounts.maps {
         for length in MAP_LENGTHS {
@@ -111,12 +116,6 @@ fn map_edges(subject: &mut dyn Subject) -> Result<usize, String> {
                     comparisons += 1;
                 }
             }
-        }
-    }
-    for fill in [0, 1, 0x80, 0xff] {
-        for length in MAP_LENGTHS {
-            same_count(subject, &vec![fill; length])?;
-            comparisons += 1;
         }
     }
     Ok(comparisons)
