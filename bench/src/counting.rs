@@ -42,7 +42,8 @@ fn batch<const WAY: usize>(input: &Input) -> f64 {
     map_batch(input, WAYS[WAY].1)
 }
 
-/// Empty, half full and full maps.
+/// Empty, half full and full maps: as many of each as a row of calls has inputs, since the first input of all is the
+/// slowest.
 pub fn rows() -> Vec<Row> {
     let mut random = Random::new(SEED);
     let pages = 1 << HEIGHT;

@@ -61,7 +61,8 @@ pub fn of_map_times(maps: &[Row], figures: &[Figures]) -> Option<Goal> {
     Goal::worst("count ÷ count byte by byte, time", 1.0, ratios)
 }
 
-/// That a map is counted in no more instructions than byte by byte, for the worst map.
+/// That a map is counted in at most half the instructions that it takes byte by byte, for the worst map. Neither that nor
+/// numbers that are counted one by one would meet it.
 pub fn of_map_counts(maps: &[Row], counts: &[Count]) -> Option<Goal> {
     let ratios = maps.iter().enumerate().flat_map(|(place, row)| {
         let [library, bytewise] = ["library", "bytewise"].map(|who| of_row(counts, "map", place, who));
@@ -69,7 +70,7 @@ pub fn of_map_counts(maps: &[Row], counts: &[Count]) -> Option<Goal> {
             .zip(bytewise)
             .map(|(library, bytewise)| (library / bytewise, row.name()))
     });
-    Goal::worst("count ÷ count byte by byte, instructions", 1.0, ratios)
+    Goal::worst("count ÷ count byte by byte, instructions", 0.5, ratios)
 }
 
 /// The goals that instructions decide: by call and height against the same algorithm in Rust and against the bare
