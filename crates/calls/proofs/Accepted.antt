@@ -225,14 +225,14 @@ module _ (h : ℕ) (T : List ℕ) (c : Call) (e : step h T c .answer ≡ 0) wher
             (fewer-sizes h T B K t (r .tenant) (r .holds)));
       })
 
-abbrev levelAsked : Call → ℕ
-levelAsked (grant-level t l m) = l
-levelAsked (grant-pages t p m) = levelFor p
-levelAsked (release t m) = 0
+abbrev levelAsked : ℕ → Call → ℕ
+levelAsked h (grant-level t l m) = l
+levelAsked h (grant-pages t p m) = levelFor h p
+levelAsked h (release t m) = 0
 
-asks-level : (c : Call) (l : ℕ) → Asks c l → levelAsked c ≡ l
-asks-level c l by-level = refl
-asks-level c l by-pages = refl
+asks-level : (h : ℕ) (c : Call) (l : ℕ) → Asks h c l → levelAsked h c ≡ l
+asks-level h c l by-level = refl
+asks-level h c l by-pages = refl
 
 pub demand-2 : (h : ℕ) (T : List ℕ) (c : Call) → Demand2 h T c
 demand-2 h T c = record {
@@ -243,13 +243,13 @@ demand-2 h T c = record {
     refused-not : (n : ℕ) → step h T c .answer ≡ 0 → step h T c ≡ refused (suc n) T → ⊥
     refused-not n e o = omega (arith, e, ap (λ (x : Outcome). x .answer) o)
 
-    granted-by : (l : ℕ) → Asks c l → step h T c .answer ≡ 0 → Case h T c → AfterGrant h T (tenantOf c) l (step h T c)
+    granted-by : (l : ℕ) → Asks h c l → step h T c .answer ≡ 0 → Case h T c → AfterGrant h T (tenantOf c) l (step h T c)
     granted-by l a e (by-grant k g) =
-        subst (λ (j : ℕ). AfterGrant h T (tenantOf c) j (step h T c)) (sym (asks-level c k (g .asks)) ∙ asks-level c l a) (after-grant h T c e k g)
-    granted-by l a e (by-release r) = absurd (grants-do-not-release c l a (r .asks))
+        subst (λ (j : ℕ). AfterGrant h T (tenantOf c) j (step h T c)) (sym (asks-level h c k (g .asks)) ∙ asks-level h c l a) (after-grant h T c e k g)
+    granted-by l a e (by-release r) = absurd (grants-do-not-release h c l a (r .asks))
     granted-by l a e (by-refusal n o) = absurd (refused-not n e o)
 
     released-by : Releases c → step h T c .answer ≡ 0 → Case h T c → AfterRelease h T (tenantOf c) (step h T c)
-    released-by r e (by-grant k g) = absurd (grants-do-not-release c k (g .asks) r)
+    released-by r e (by-grant k g) = absurd (grants-do-not-release h c k (g .asks) r)
     released-by r e (by-release d) = after-release h T c e d
     released-by r e (by-refusal n o) = absurd (refused-not n e o)

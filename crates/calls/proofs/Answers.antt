@@ -17,7 +17,7 @@ use Rattle.calls.specs.Demand.{Valid, Agrees, Asks, by-level, by-pages, 
 use Rattle.calls.proofs.Checks.{answer-valid, valid-level}
 use Rattle.calls.proofs.Kept.{Kept, sound, no-room-no-placement, room-placement}
 
-asked-holdings : (h : ℕ) (T : List ℕ) (c : Call) (l : ℕ) → Asks c l → holdings h T c ≡ grant-holdings h T (tenantOf c) l
+asked-holdings : (h : ℕ) (T : List ℕ) (c : Call) (l : ℕ) → Asks h c l → holdings h T c ≡ grant-holdings h T (tenantOf c) l
 asked-holdings h T c l by-level = refl
 asked-holdings h T c l by-pages = refl
 
@@ -28,19 +28,19 @@ module _ (h : ℕ) (T : List ℕ) (B : Book) (K : Kept h T B) where
   has-nothing : (t : ℕ) → B t ≡ none → nodeAt T t ≡ 0
   has-nothing t e = rw e at (K .agrees t)
 
-  pub holder-asks : (c : Call) (l k : ℕ) → Asks c l → Valid h c → B (tenantOf c) ≡ some k → step h T c .answer ≡ 8
+  pub holder-asks : (c : Call) (l k : ℕ) → Asks h c l → Valid h c → B (tenantOf c) ≡ some k → step h T c .answer ≡ 8
   holder-asks c l k a v e =
       answer-valid h T (sound h T B K) c v
       ∙ ap first (asked-holdings h T c l a)
       ∙ rw (lt-ltb 0 (nodeAt T (tenantOf c)) (has-node (tenantOf c) k e))
 
   -- a tenant that holds nothing gets 10 if the pages are too many, and 0 otherwise
-  asks-answer : (c : Call) (l : ℕ) → Asks c l → Valid h c → B (tenantOf c) ≡ none
+  asks-answer : (c : Call) (l : ℕ) → Asks h c l → Valid h c → B (tenantOf c) ≡ none
       → step h T c .answer ≡ cond (ltb (2 ^ h) (pages (countsOf h T) + 2 ^ l)) 10 0
   asks-answer c l a v e =
       answer-valid h T (sound h T B K) c v ∙ ap first (asked-holdings h T c l a) ∙ rw (has-nothing (tenantOf c) e)
 
-  pub other-asks : (c : Call) (l : ℕ) → Asks c l → Valid h c → B (tenantOf c) ≡ none
+  pub other-asks : (c : Call) (l : ℕ) → Asks h c l → Valid h c → B (tenantOf c) ≡ none
       → ((step h T c .answer ≡ 10) ↔ NoPlacement h B l) × ((step h T c .answer ≡ 10) ⊎ (step h T c .answer ≡ 0))
   other-asks c l a v e = go (ltb (2 ^ h) (pages (countsOf h T) + 2 ^ l)) refl
     where

@@ -60,26 +60,26 @@ module _ (h : ℕ) (T : List ℕ) (c : Call) (k : ℕ) (asked : k ≡ first (arg
       tenant = valid-tenant h c valid;
     }
 
-    pub in-height : ¬ (wantedBy c ≡ no-level) → wantedBy c ≤ h
+    pub in-height : ¬ (wantedBy h c ≡ no-level) → wantedBy h c ≤ h
     in-height = go c valid
       where
-        go : (c : Call) → first (validity h c) ≡ 0 → ¬ (wantedBy c ≡ no-level) → wantedBy c ≤ h
+        go : (c : Call) → first (validity h c) ≡ 0 → ¬ (wantedBy h c ≡ no-level) → wantedBy h c ≤ h
         go (grant-level t l m) v ne = valid-level h (grant-level t l m) l by-level v
-        go (grant-pages t p m) v ne = valid-level h (grant-pages t p m) (wantedBy (grant-pages t p m)) by-pages v
+        go (grant-pages t p m) v ne = valid-level h (grant-pages t p m) (wantedBy h (grant-pages t p m)) by-pages v
         go (release t m) v ne = absurd (ne refl)
 
-    pub call-changes : changeOn h T (tenantOf c) (wantedBy c) ≡ step h T c
+    pub call-changes : changeOn h T (tenantOf c) (wantedBy h c) ≡ step h T c
     unfolding changeOn grantOn releaseOn by-table
     call-changes = go c valid ∙ decided
       where
         go : (c : Call) → first (validity h c) ≡ 0
-            → changeOn h T (tenantOf c) (wantedBy c) ≡ unless (first (check 7 (not (in-order? h T)) ∷ holdings h T c)) T (accepted h T c)
+            → changeOn h T (tenantOf c) (wantedBy h c) ≡ unless (first (check 7 (not (in-order? h T)) ∷ holdings h T c)) T (accepted h T c)
         go (grant-level t l m) v =
             let low = valid-level h (grant-level t l m) l by-level v in
             rw (ne-eqb l no-level (λ e. omega (arith, low, height-checked)))
         go (grant-pages t p m) v =
-            let low = valid-level h (grant-pages t p m) (levelFor p) by-pages v in
-            rw (ne-eqb (levelFor p) no-level (λ e. omega (arith, low, height-checked)))
+            let low = valid-level h (grant-pages t p m) (levelFor h p) by-pages v in
+            rw (ne-eqb (levelFor h p) no-level (λ e. omega (arith, low, height-checked)))
         go (release t m) v = refl
 
 -- the entries lent do not matter for the tenant and what is wanted
@@ -88,7 +88,7 @@ same-tenant (GrantLevel t l) m = refl
 same-tenant (GrantPages t p) m = refl
 same-tenant (Release t) m = refl
 
-pub same-wanted : (c : Arguments) (m : ℕ) → wantedBy (callOf c 0) ≡ wantedBy (callOf c m)
-same-wanted (GrantLevel t l) m = refl
-same-wanted (GrantPages t p) m = refl
-same-wanted (Release t) m = refl
+pub same-wanted : (h : ℕ) (c : Arguments) (m : ℕ) → wantedBy h (callOf c 0) ≡ wantedBy h (callOf c m)
+same-wanted h (GrantLevel t l) m = refl
+same-wanted h (GrantPages t p) m = refl
+same-wanted h (Release t) m = refl

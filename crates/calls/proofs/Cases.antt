@@ -19,7 +19,7 @@ use Rattle.calls.proofs.Checks.{Sound, first-of-sound, Numbered, validi
 use Rattle.calls.proofs.Given.{above-zero}
 
 pub record Granted (h : ℕ) (T : List ℕ) (c : Call) (l : ℕ) : Type 0 where
-  pub asks : Asks c l
+  pub asks : Asks h c l
   pub tenant : tenantOf c < 4096
   pub nothing : nodeAt T (tenantOf c) ≡ 0
   pub in-height : l ≤ h
@@ -60,7 +60,7 @@ module _ (h : ℕ) (T : List ℕ) (s : Sound h T) where
       let r = rest-zero 8 (ltb 0 (nodeAt T t)) (room-check l ∷ []) (omega arith) e in
       ltb-false (2 ^ h) (pages (countsOf h T) + 2 ^ l) (not-applied 10 (ltb (2 ^ h) (pages (countsOf h T) + 2 ^ l)) [] (omega arith) r)
 
-  grant-case : (c : Call) (l : ℕ) → Asks c l → first (validity h c) ≡ 0 → first (grant-holdings h T (tenantOf c) l) ≡ 0
+  grant-case : (c : Call) (l : ℕ) → Asks h c l → first (validity h c) ≡ 0 → first (grant-holdings h T (tenantOf c) l) ≡ 0
       → step h T c ≡ granted h T (layoutSet h (oneMore (countsOf h T) l)) (tenantOf c) l → Case h T c
   grant-case c l a v e o =
       by-grant l (record {
@@ -74,7 +74,7 @@ module _ (h : ℕ) (T : List ℕ) (s : Sound h T) where
 
   accepted-case : (c : Call) → first (validity h c) ≡ 0 → first (holdings h T c) ≡ 0 → step h T c ≡ accepted h T c → Case h T c
   accepted-case (grant-level t l m) v e o = grant-case (grant-level t l m) l by-level v e o
-  accepted-case (grant-pages t p m) v e o = grant-case (grant-pages t p m) (levelFor p) by-pages v e o
+  accepted-case (grant-pages t p m) v e o = grant-case (grant-pages t p m) (levelFor h p) by-pages v e o
   accepted-case (release t m) v e o =
       by-release (record {
         asks = releases;

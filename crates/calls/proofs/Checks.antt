@@ -112,11 +112,11 @@ size-check t m c e =
     let r = rest-zero 3 (ltb m 4) (check 4 (ltb 4095 t) ∷ c ∷ []) (omega arith) e in
     rest-zero 4 (ltb 4095 t) (c ∷ []) (omega arith) r
 
-pub valid-level : (h : ℕ) (c : Call) (l : ℕ) → Asks c l → first (validity h c) ≡ 0 → l ≤ h
+pub valid-level : (h : ℕ) (c : Call) (l : ℕ) → Asks h c l → first (validity h c) ≡ 0 → l ≤ h
 valid-level h c l (by-level {t = t} {l = k} {m = m}) v =
     ltb-false h k (not-applied 5 (ltb h k) [] (omega arith) (size-check t m (check 5 (ltb h k)) v))
 valid-level h c l (by-pages {t = t} {p = p} {m = m}) v =
-    level-for-le p h (leb-false (2 ^ h) p (not-applied 6 (leb (2 ^ h) p) [] (omega arith) (size-check t m (pages-check h p) v)))
+    level-for-le h p (leb-false (2 ^ h) p (not-applied 6 (leb (2 ^ h) p) [] (omega arith) (size-check t m (pages-check h p) v)))
 
 -- 3 to 6 are 3 and 4, and then what is asked for
 pub validity-parts : (h : ℕ) (c : Arguments) (m : ℕ) → validity h (callOf c m) ≡ list-checks (tenantOf (callOf c 0)) m ++ size-checks h (callOf c 0)

@@ -19,10 +19,10 @@ use Rattle.calls.proofs.Checks.{height-passed}
 use Rattle.calls.proofs.Kept.{Kept}
 use Rattle.calls.proofs.Box.{box, kept-by-call}
 
-pub kept-by-calls : (h : ℕ) (T : List ℕ) (B : Book) (cs : List Call) → Kept h T B → Kept h (tableFrom h T cs) (bookFrom B cs (answersFrom h T cs))
+pub kept-by-calls : (h : ℕ) (T : List ℕ) (B : Book) (cs : List Call) → Kept h T B → Kept h (tableFrom h T cs) (bookFrom h B cs (answersFrom h T cs))
 unfolding tableFrom answersFrom bookFrom
 kept-by-calls h T B [] K = K
-kept-by-calls h T B (c ∷ cs) K = kept-by-calls h (step h T c .table) (enter c (step h T c .answer) B) cs (kept-by-call h T B K c)
+kept-by-calls h T B (c ∷ cs) K = kept-by-calls h (step h T c .table) (enter h c (step h T c .answer) B) cs (kept-by-call h T B K c)
 
 -- an accepted opening at height h leaves 4,096 entries of 0, and h is at most 12
 record Opened (h : ℕ) (T : List ℕ) : Type 0 where
@@ -70,7 +70,7 @@ no-placement-on-both : (h : ℕ) (B₁ B₂ : Book) (l : ℕ) → ((m : ℕ) →
 no-placement-on-both h B₁ B₂ l e none-legal A w s = none-legal A w (λ m. s m ∙ ap (λ (c : ℕ). c + one-if (eqb m l)) (sym (e m)))
 
 same-fate : (h : ℕ) (T₁ T₂ : List ℕ) (B₁ B₂ : Book) → Box h T₁ B₁ → Box h T₂ B₂ → ((l : ℕ) → held B₁ l ≡ held B₂ l)
-    → (c₁ c₂ : Call) (l : ℕ) → Asks c₁ l → Asks c₂ l → Valid h c₁ → Valid h c₂ → B₁ (tenantOf c₁) ≡ none → B₂ (tenantOf c₂) ≡ none
+    → (c₁ c₂ : Call) (l : ℕ) → Asks h c₁ l → Asks h c₂ l → Valid h c₁ → Valid h c₂ → B₁ (tenantOf c₁) ≡ none → B₂ (tenantOf c₂) ≡ none
     → SameFate h B₁ l (step h T₁ c₁) (step h T₂ c₂)
 same-fate h T₁ T₂ B₁ B₂ b₁ b₂ e c₁ c₂ l a₁ a₂ v₁ v₂ n₁ n₂ = go (one .1) (two .1)
   where

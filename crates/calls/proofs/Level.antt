@@ -1,7 +1,7 @@
--- The level that a number of pages takes is the smallest whose block has them and the guard page.
+-- The level that a number of pages takes is the smallest whose block has them and the guard page; 0 names none and takes 4 or the height.
 use mathlib.Core.Path.{_≡_, refl, sym}
 use mathlib.Core.Bool.{Bool, true, false, cond}
-use Prim.Native.Nat.{ℕ, zero, suc, _+_, _-_, _^_, _≤_, _<_}
+use Prim.Native.Nat.{ℕ, zero, suc, _+_, _-_, _^_, _≤_, _<_, min}
 use native.Mathlib.Nat.{add-zero, add-suc, suc-add, zero-add, pow-suc, le-antisymm}
 use native.Mathlib.Numerals.{add-one}
 use native.Mathlib.Omega.{arith}
@@ -47,35 +47,35 @@ least-unique p l m a b = le-antisymm (a .smallest m (b .enough)) (b .smallest l 
 pub least-level-is : (p l : ℕ) → Least p l → leastLevel p ≡ l
 least-level-is p l a = least-unique p (leastLevel p) l (least-level-least p) a
 
--- pages 0 is level 0
-pub level-for-none : (p : ℕ) → p ≡ 0 → levelFor p ≡ 0
+-- pages 0 is level 4, or the height where that is less
+pub level-for-none : (h p : ℕ) → p ≡ 0 → levelFor h p ≡ min 4 h
 unfolding levelFor
-level-for-none zero e = refl
-level-for-none (suc p) e = absurd (omega arith)
+level-for-none h zero e = refl
+level-for-none h (suc p) e = absurd (omega arith)
 
 -- any other number takes the smallest level whose block has that many pages and one more
-pub level-for-least : (p : ℕ) → 0 < p → Least (p + 1) (levelFor p)
+pub level-for-least : (h p : ℕ) → 0 < p → Least (p + 1) (levelFor h p)
 unfolding levelFor
-level-for-least zero q = absurd (omega arith)
-level-for-least (suc p) q = least-level-least (suc p + 1)
+level-for-least h zero q = absurd (omega arith)
+level-for-least h (suc p) q = least-level-least (suc p + 1)
 
-pub level-for-named : (p : ℕ) → 0 < p → levelFor p ≡ leastLevel (p + 1)
-level-for-named p q = sym (least-level-is (p + 1) (levelFor p) (level-for-least p q))
+pub level-for-named : (h p : ℕ) → 0 < p → levelFor h p ≡ leastLevel (p + 1)
+level-for-named h p q = sym (least-level-is (p + 1) (levelFor h p) (level-for-least h p q))
 
 -- so pages of which the reserve has one more take a level that it has
-pub level-for-le : (p h : ℕ) → p < 2 ^ h → levelFor p ≤ h
-level-for-le zero h q = rw (level-for-none 0 refl) (omega arith)
-level-for-le (suc p) h q = level-for-least (suc p) (omega arith) .smallest h (omega arith)
+pub level-for-le : (h p : ℕ) → p < 2 ^ h → levelFor h p ≤ h
+level-for-le h zero q = rw (level-for-none h 0 refl) (omega arith)
+level-for-le h (suc p) q = level-for-least h (suc p) (omega arith) .smallest h (omega arith)
 
 -- and all others a level that it lacks
-pub level-for-above : (p h : ℕ) → 2 ^ h ≤ p → h < levelFor p
-level-for-above p h q = go (level-for-least p (omega (arith, pow-pos h))) (decLt h (levelFor p))
+pub level-for-above : (h p : ℕ) → 2 ^ h ≤ p → h < levelFor h p
+level-for-above h p q = go (level-for-least h p (omega (arith, pow-pos h))) (decLt h (levelFor h p))
   where
-    go : Least (p + 1) (levelFor p) → Dec (h < levelFor p) → h < levelFor p
+    go : Least (p + 1) (levelFor h p) → Dec (h < levelFor h p) → h < levelFor h p
     go a (yes r) = r
     go a (no nr) = absurd (omega (arith, a .enough, pow-mono (not-lt nr)))
       where
-        not-lt : ¬ (h < levelFor p) → levelFor p ≤ h
+        not-lt : ¬ (h < levelFor h p) → levelFor h p ≤ h
         not-lt f = omega arith
 
 -- two pages or more: the level above the depth of one page less

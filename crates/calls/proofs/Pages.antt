@@ -1,14 +1,16 @@
--- What document 02, L1, promises of a grant by pages, for every height, table and argument.
+-- What document 02, L1 and L4, promises of a grant by pages, for every height, table and argument.
 use mathlib.Core.Path.{_≡_, refl, sym, _∙_}
 use mathlib.Core.Bool.{Bool, true, false, not}
 use mathlib.Core.List.{List, [], _∷_}
 use mathlib.Core.Logic.{_↔_}
 use Prim.Native.Nat.{ℕ, _+_, _^_, _≤_, _<_}
 use native.Mathlib.Omega.{arith}
-use native.Mathlib.Decide.{decLt}
+use native.Mathlib.Decide.{decLt, ℕ-discrete}
 use borrow.Author.Tests.{leb-true, le-leb}
-use lib.Dec.{ltb, leb}
+use lib.Dec.{eqb, ltb, leb}
 use lib.ListN.{length}
+use lib.Pow.{pow-pos}
+use Rattle.tree.specs.Node.{level}
 use Rattle.layout.specs.Layout.{pages}
 use Rattle.table.specs.Table.{nodeAt, countsOf, in-order?}
 use Rattle.calls.specs.Call.{grant-pages, levelFor}
@@ -16,7 +18,7 @@ use Rattle.calls.specs.Step.{Check, check, first, pages-check, grant-hol
 use Rattle.calls.specs.Demand.{by-pages}
 use Rattle.calls.specs.Pages.{PagesPromise}
 use Rattle.calls.proofs.Level.{level-for-none, level-for-least, level-for-le, level-for-above}
-use Rattle.calls.proofs.Checks.{four, four-numbered, first-after-none, answer-is-first}
+use Rattle.calls.proofs.Checks.{four, four-numbered, first-after-none, first-stands, answer-is-first}
 use Rattle.calls.proofs.Accepted.{demand-2}
 
 -- what comes after 6 does not answer 6
@@ -27,16 +29,16 @@ not-6 false false true e = omega arith
 not-6 false false false e = omega arith
 
 -- the pages that are refused take a level that the reserve lacks
-refused-iff-above : (h p : ℕ) → (2 ^ h ≤ p) ↔ (h < levelFor p)
-refused-iff-above h p = (level-for-above p h, λ above. go above (decLt p (2 ^ h)))
+refused-iff-above : (h p : ℕ) → (2 ^ h ≤ p) ↔ (h < levelFor h p)
+refused-iff-above h p = (level-for-above h p, λ above. go above (decLt p (2 ^ h)))
   where
-    go : h < levelFor p → Dec (p < 2 ^ h) → 2 ^ h ≤ p
-    go above (yes q) = absurd (omega (arith, level-for-le p h q))
+    go : h < levelFor h p → Dec (p < 2 ^ h) → 2 ^ h ≤ p
+    go above (yes q) = absurd (omega (arith, level-for-le h p q))
     go above (no nq) = omega arith
 
 module _ (h : ℕ) (T : List ℕ) (t p m : ℕ) (passed : first (four h (length T) t m) ≡ 0) where
   later : List Check
-  later = check 7 (not (in-order? h T)) ∷ grant-holdings h T t (levelFor p)
+  later = check 7 (not (in-order? h T)) ∷ grant-holdings h T t (levelFor h p)
 
   decided : step h T (grant-pages t p m) .answer ≡ first (pages-check h p ∷ later)
   unfolding later
@@ -46,7 +48,7 @@ module _ (h : ℕ) (T : List ℕ) (t p m : ℕ) (passed : first (four h (length 
 
   later-not-6 : ¬ (first later ≡ 6)
   unfolding later
-  later-not-6 = not-6 (not (in-order? h T)) (ltb 0 (nodeAt T t)) (ltb (2 ^ h) (pages (countsOf h T) + 2 ^ levelFor p))
+  later-not-6 = not-6 (not (in-order? h T)) (ltb 0 (nodeAt T t)) (ltb (2 ^ h) (pages (countsOf h T) + 2 ^ levelFor h p))
 
   answered-6 : 2 ^ h ≤ p → step h T (grant-pages t p m) .answer ≡ 6
   answered-6 q = rw (le-leb (2 ^ h) p q) at decided
@@ -58,10 +60,34 @@ module _ (h : ℕ) (T : List ℕ) (t p m : ℕ) (passed : first (four h (length 
       go true q = leb-true (2 ^ h) p q
       go false q = absurd (later-not-6 (sym (rw q at decided) ∙ e))
 
+-- the node is on the level that the pages take
+on-level : (h : ℕ) (T : List ℕ) (t p m : ℕ) → step h T (grant-pages t p m) .answer ≡ 0
+    → level h (step h T (grant-pages t p m) .node) ≡ levelFor h p
+on-level h T t p m e = demand-2 h T (grant-pages t p m) .grant (levelFor h p) by-pages e .on-level
+
+-- 1 to 4 are other numbers than 6
+four-not-6 : (a b c d : Bool) → ¬ (first (check 1 a ∷ check 2 b ∷ check 3 c ∷ check 4 d ∷ []) ≡ 6)
+four-not-6 true b c d e = omega arith
+four-not-6 false true c d e = omega arith
+four-not-6 false false true d e = omega arith
+four-not-6 false false false true e = omega arith
+four-not-6 false false false false e = omega arith
+
+-- no pages are fewer than any reserve has, so 6 never applies to them
+never-6 : (h : ℕ) (T : List ℕ) (t p m : ℕ) → p ≡ 0 → ¬ (step h T (grant-pages t p m) .answer ≡ 6)
+never-6 h T t p m z e = go (ℕ-discrete (first (four h (length T) t m)) 0)
+  where
+    go : Dec (first (four h (length T) t m) ≡ 0) → ⊥
+    go (yes passed) = omega (arith, only-6 h T t p m passed e, pow-pos h)
+    go (no refused) = four-not-6 (ltb 12 h) (not (eqb (length T) 4096)) (ltb m 4) (ltb 4095 t)
+        (sym (first-stands (four h (length T) t m) (pages-check h p ∷ check 7 (not (in-order? h T)) ∷ grant-holdings h T t (levelFor h p)) refused) ∙ sym (answer-is-first h T (grant-pages t p m)) ∙ e)
+
 pub grant-by-pages : PagesPromise
 grant-by-pages h T t p m = record {
-  guarded = λ q e. rw (demand-2 h T (grant-pages t p m) .grant (levelFor p) by-pages e .on-level) (level-for-least p q);
-  unnamed = λ z e. demand-2 h T (grant-pages t p m) .grant (levelFor p) by-pages e .on-level ∙ level-for-none p z;
+  guarded = λ q e. rw (on-level h T t p m e) (level-for-least h p q);
+  unnamed = λ z q e. omega (arith, on-level h T t p m e, level-for-none h p z);
+  unnamed-low = λ z q e. omega (arith, on-level h T t p m e, level-for-none h p z);
+  unnamed-goes-in = λ z. never-6 h T t p m z;
   refused = λ passed. (only-6 h T t p m passed, answered-6 h T t p m passed);
   no-level = refused-iff-above h p;
   height-0 = λ passed z q. answered-6 h T t p m passed (rw z (omega arith));

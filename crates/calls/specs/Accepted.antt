@@ -71,5 +71,5 @@ pub record AfterRelease (h : ℕ) (T : List ℕ) (t : ℕ) (o : Outcome) : Type 
 
 -- demand 2: what an accepted call c does to the table T at height h
 pub record Demand2 (h : ℕ) (T : List ℕ) (c : Call) : Type 0 where
-  pub grant : (l : ℕ) → Asks c l → step h T c .answer ≡ 0 → AfterGrant h T (tenantOf c) l (step h T c)
+  pub grant : (l : ℕ) → Asks h c l → step h T c .answer ≡ 0 → AfterGrant h T (tenantOf c) l (step h T c)
   pub release : Releases c → step h T c .answer ≡ 0 → AfterRelease h T (tenantOf c) (step h T c)

@@ -1,6 +1,6 @@
--- The calls with their arguments. Document 01, "Calls", and for the level that pages take document 02, L1.
+-- The calls with their arguments. Document 01, "Calls", and for the level that pages take document 02, L1 and L4.
 use mathlib.Core.Bool.{cond}
-use Prim.Native.Nat.{ℕ, zero, suc, _+_, _^_}
+use Prim.Native.Nat.{ℕ, zero, suc, _+_, _^_, min}
 use lib.Dec.{leb}
 
 -- A grant by level (tenant, level), a grant by pages (tenant, pages), a release (tenant); the last number is that of the move entries lent.
@@ -18,11 +18,11 @@ leastFrom l (suc n) p = cond (leb p (2 ^ l)) l (leastFrom (suc l) n p)
 unfoldable pub leastLevel : ℕ → ℕ
 leastLevel p = leastFrom 0 p p
 
--- the level that a grant by pages takes: 0 names no size and takes level 0; any other number takes the smallest level whose block
--- has that many pages and one more, the guard page
-unfoldable pub levelFor : ℕ → ℕ
-levelFor zero = 0
-levelFor (suc p) = leastLevel (suc p + 1)
+-- the level that a grant by pages takes at height h: 0 names no size and takes level 4, or level h on a reserve under height 4, without a
+-- guard page; any other number takes the smallest level whose block has that many pages and one more, the guard page
+unfoldable pub levelFor : ℕ → ℕ → ℕ
+levelFor h zero = min 4 h
+levelFor h (suc p) = leastLevel (suc p + 1)
 
 -- the tenant that a call names
 abbrev pub tenantOf : Call → ℕ

@@ -17,11 +17,11 @@ use Rattle.table.specs.declared.plan.Planned.{Planned}
 use Rattle.calls.specs.Call.{Call, grant-level, grant-pages, release, levelFor}
 use Rattle.calls.specs.Step.{Outcome, check, first, grant-holdings, granted, released, unless}
 
--- the level of the block that a call asks for; none for a release
-abbrev pub wantedBy : Call → ℕ
-wantedBy (grant-level t l m) = l
-wantedBy (grant-pages t p m) = levelFor p
-wantedBy (release t m) = no-level
+-- the level of the block that a call at height h asks for; none for a release
+abbrev pub wantedBy : ℕ → Call → ℕ
+wantedBy h (grant-level t l m) = l
+wantedBy h (grant-pages t p m) = levelFor h p
+wantedBy h (release t m) = no-level
 
 -- the arguments have passed 1, 2 and 4
 pub record Ready (h : ℕ) (T : List ℕ) (t : ℕ) : Type 0 where

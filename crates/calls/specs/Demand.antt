@@ -18,10 +18,10 @@ use Rattle.calls.specs.History.{History, tableAfter, Book, bookAfter, he
 abbrev pub Valid : ℕ → Call → Type 0
 Valid h c = first (validity h c) ≡ 0
 
--- c is a request, a grant of either kind, for level l
-pub data Asks : Call → ℕ → Type 0 where
-  by-level : {t l m : ℕ} → Asks (grant-level t l m) l
-  by-pages : {t p m : ℕ} → Asks (grant-pages t p m) (levelFor p)
+-- c is a request at height h, a grant of either kind, for level l
+pub data Asks (h : ℕ) : Call → ℕ → Type 0 where
+  by-level : {t l m : ℕ} → Asks h (grant-level t l m) l
+  by-pages : {t p m : ℕ} → Asks h (grant-pages t p m) (levelFor h p)
 
 -- c is a release
 pub data Releases : Call → Type 0 where
@@ -53,13 +53,13 @@ pub record Box (h : ℕ) (T : List ℕ) (B : Book) : Type 0 where
   pub sized : (l : ℕ) → sizes h (occupied T) l ≡ held B l
   pub only : (A : Nodes) → Within h A → Legal A → Safe h A → ((l : ℕ) → sizes h A l ≡ held B l) → (n : ℕ) → A n ≡ occupied T n
   pub not-valid : (c : Call) → ¬ Valid h c → step h T c .answer ≡ first (validity h c)
-  pub holder-asks : (c : Call) (l k : ℕ) → Asks c l → Valid h c → B (tenantOf c) ≡ some k → step h T c .answer ≡ 8
-  pub other-asks : (c : Call) (l : ℕ) → Asks c l → Valid h c → B (tenantOf c) ≡ none
+  pub holder-asks : (c : Call) (l k : ℕ) → Asks h c l → Valid h c → B (tenantOf c) ≡ some k → step h T c .answer ≡ 8
+  pub other-asks : (c : Call) (l : ℕ) → Asks h c l → Valid h c → B (tenantOf c) ≡ none
       → ((step h T c .answer ≡ 10) ↔ NoPlacement h B l) × ((step h T c .answer ≡ 10) ⊎ (step h T c .answer ≡ 0))
   pub holder-releases : (c : Call) (k : ℕ) → Releases c → Valid h c → B (tenantOf c) ≡ some k → step h T c .answer ≡ 0
   pub other-releases : (c : Call) → Releases c → Valid h c → B (tenantOf c) ≡ none → step h T c .answer ≡ 9
   pub moves : (c : Call) → length (step h T c .moves) ≡ changed (tenantOf c) T (step h T c .table)
-  pub grant-moves : (c : Call) (l : ℕ) → Asks c l → step h T c .answer ≡ 0 → length (step h T c .moves) ≤ 3
+  pub grant-moves : (c : Call) (l : ℕ) → Asks h c l → step h T c .answer ≡ 0 → length (step h T c .moves) ≤ 3
   pub release-moves : (c : Call) → Releases c → step h T c .answer ≡ 0 → length (step h T c .moves) ≤ 4
 
 -- both answer "no room" and there is no legal placement, or both grant and each moves at most three
@@ -72,7 +72,7 @@ pub record Boxes (h : ℕ) (T₁ T₂ : List ℕ) (B₁ B₂ : Book) : Type 0 wh
   pub one : Box h T₁ B₁
   pub two : Box h T₂ B₂
   pub same-places : ((l : ℕ) → held B₁ l ≡ held B₂ l) → (n : ℕ) → occupied T₁ n ≡ occupied T₂ n
-  pub same-fate : ((l : ℕ) → held B₁ l ≡ held B₂ l) → (c₁ c₂ : Call) (l : ℕ) → Asks c₁ l → Asks c₂ l → Valid h c₁ → Valid h c₂
+  pub same-fate : ((l : ℕ) → held B₁ l ≡ held B₂ l) → (c₁ c₂ : Call) (l : ℕ) → Asks h c₁ l → Asks h c₂ l → Valid h c₁ → Valid h c₂
       → B₁ (tenantOf c₁) ≡ none → B₂ (tenantOf c₂) ≡ none → SameFate h B₁ l (step h T₁ c₁) (step h T₂ c₂)
 
 -- demand 3: what holds of the tables and the books after any two histories of one height

@@ -40,22 +40,22 @@ Book = ℕ → Option ℕ
 abbrev pub write : ℕ → Option ℕ → Book → Book
 write t e B u = cond (eqb u t) e (B u)
 
--- one call with the number that it answered: a grant answered 0 writes the tenant's level down, a release answered 0 strikes it out
-abbrev pub enter : Call → ℕ → Book → Book
-enter c (suc a) B = B
-enter (grant-level t l m) zero B = write t (some l) B
-enter (grant-pages t p m) zero B = write t (some (levelFor p)) B
-enter (release t m) zero B = write t none B
+-- one call at height h with the number that it answered: a grant answered 0 writes the tenant's level down, a release answered 0 strikes it out
+abbrev pub enter : ℕ → Call → ℕ → Book → Book
+enter h c (suc a) B = B
+enter h (grant-level t l m) zero B = write t (some l) B
+enter h (grant-pages t p m) zero B = write t (some (levelFor h p)) B
+enter h (release t m) zero B = write t none B
 
 -- the book after some calls, fed each one's arguments and the number that it answered
-unfoldable pub bookFrom : Book → List Call → List ℕ → Book
-bookFrom B [] as′ = B
-bookFrom B (c ∷ cs) [] = B
-bookFrom B (c ∷ cs) (a ∷ as′) = bookFrom (enter c a B) cs as′
+unfoldable pub bookFrom : ℕ → Book → List Call → List ℕ → Book
+bookFrom h B [] as′ = B
+bookFrom h B (c ∷ cs) [] = B
+bookFrom h B (c ∷ cs) (a ∷ as′) = bookFrom h (enter h c a B) cs as′
 
 -- after the opening it has nothing for anyone
 abbrev pub bookAfter : (h : ℕ) → History h → Book
-bookAfter h H = bookFrom (λ t. none) (H .calls) (answersOf h H)
+bookAfter h H = bookFrom h (λ t. none) (H .calls) (answersOf h H)
 
 -- whether an entry of the book is level l
 abbrev pub at-level : Option ℕ → ℕ → Bool

@@ -1,4 +1,4 @@
--- What a grant by pages gets, as a statement in the words of document 02, L1.
+-- What a grant by pages gets, as a statement in the words of document 02, L1 and L4.
 use mathlib.Core.Path.{_≡_}
 use mathlib.Core.List.{List, _++_}
 use mathlib.Core.Logic.{_↔_}
@@ -17,12 +17,15 @@ pub record Least (n l : ℕ) : Type 0 where
 pub record GrantByPages (h : ℕ) (T : List ℕ) (t p m : ℕ) (o : Outcome) : Type 0 where
   -- p above 0 gets a block that has p pages and one more, and no smaller level has one
   pub guarded : 0 < p → o .answer ≡ 0 → Least (p + 1) (level h (o .node))
-  -- pages 0 gets level 0
-  pub unnamed : p ≡ 0 → o .answer ≡ 0 → level h (o .node) ≡ 0
+  -- pages 0 gets level 4, or level h on a reserve under height 4
+  pub unnamed : p ≡ 0 → 4 ≤ h → o .answer ≡ 0 → level h (o .node) ≡ 4
+  pub unnamed-low : p ≡ 0 → h < 4 → o .answer ≡ 0 → level h (o .node) ≡ h
+  -- and never 6
+  pub unnamed-goes-in : p ≡ 0 → ¬ (o .answer ≡ 6)
   -- where none of 1 to 4 applies, 6 is answered from p = 2^h upwards and only there
   pub refused : first (length-checks h (length T) ++ list-checks t m) ≡ 0 → (o .answer ≡ 6) ↔ (2 ^ h ≤ p)
   -- that is exactly when the level that the pages take lies above the height
-  pub no-level : (2 ^ h ≤ p) ↔ (h < levelFor p)
+  pub no-level : (2 ^ h ≤ p) ↔ (h < levelFor h p)
   -- so at height 0 each named size gets it
   pub height-0 : first (length-checks h (length T) ++ list-checks t m) ≡ 0 → h ≡ 0 → 0 < p → o .answer ≡ 6
 

@@ -1,5 +1,5 @@
 -- What each call answers and what it leaves in the table, for every height, table and argument. Document 01, "Calls" and "Refusals by place";
--- refusal 6 as document 02, L1, has it, and the list of moves as L2.
+-- refusal 6 as document 02, L1, has it, the list of moves as L2, and the level that pages 0 takes as L4.
 use mathlib.Core.Bool.{Bool, not, cond}
 use mathlib.Core.List.{List, [], _∷_, _++_}
 use Prim.Native.Nat.{ℕ, zero, suc, _+_, _^_}
@@ -76,7 +76,7 @@ grant-holdings h T t l = check 8 (ltb 0 (nodeAt T t)) ∷ check 10 (ltb (2 ^ h) 
 -- 8, 9 and 10
 abbrev pub holdings : ℕ → List ℕ → Call → List Check
 holdings h T (grant-level t l m) = grant-holdings h T t l
-holdings h T (grant-pages t p m) = grant-holdings h T t (levelFor p)
+holdings h T (grant-pages t p m) = grant-holdings h T t (levelFor h p)
 holdings h T (release t m) = check 9 (eqb (nodeAt T t) 0) ∷ []
 
 -- all of them, place by place
@@ -106,7 +106,7 @@ released h T N t = record {
 -- what an accepted call does: the counts with one more or one fewer decide the new set
 abbrev pub accepted : ℕ → List ℕ → Call → Outcome
 accepted h T (grant-level t l m) = granted h T (layoutSet h (oneMore (countsOf h T) l)) t l
-accepted h T (grant-pages t p m) = granted h T (layoutSet h (oneMore (countsOf h T) (levelFor p))) t (levelFor p)
+accepted h T (grant-pages t p m) = granted h T (layoutSet h (oneMore (countsOf h T) (levelFor h p))) t (levelFor h p)
 accepted h T (release t m) = released h T (layoutSet h (oneFewer (countsOf h T) (level h (nodeAt T t)))) t
 
 -- the refusal with this number, or what is done where it is 0

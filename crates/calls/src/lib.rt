@@ -62,13 +62,13 @@ impl Call {
         }
     }
 
-    // The level of the block that the call asks for; none for a release.
-    fn wanted(self) -> u16
-        ensures { λ r. ⌜ r ≡ wantedBy (callOf self 0) ⌝ }
+    // The level of the block that the call asks for at a height; none for a release.
+    fn wanted(self, height: u16) -> u16
+        ensures { λ r. ⌜ r ≡ wantedBy height (callOf self 0) ⌝ }
     {
         match self {
             Call::GrantLevel { tenant: _, level } => level,
-            Call::GrantPages { tenant: _, pages } => request::level_for(pages),
+            Call::GrantPages { tenant: _, pages } => request::level_for(height, pages),
             Call::Release { tenant: _ } => NO_LEVEL,
         }
     }
@@ -112,5 +112,5 @@ pub fn run(height: u16, table: &mut [u16], entries: usize, call: Call) -> Called
     if number != 0 {
         return refused(number);
     }
-    change::change(height, table, call.tenant(), call.wanted())
+    change::change(height, table, call.tenant(), call.wanted(height))
 }

@@ -62,15 +62,18 @@ fn by_pages() {
     text(b"# by pages\n");
     let mut space = [0u16; 4096];
     let table: &mut [u16] = &mut space;
-    open(3, table);
-    grant_pages(3, table, 4, 0, 3);
-    grant_pages(3, table, 4, 1, 1);
-    grant_pages(3, table, 4, 2, 0);
-    grant_pages(3, table, 4, 3, 0);
-    grant_pages(3, table, 4, 4, 1);
-    grant_pages(3, table, 4, 3, 7);
-    grant_pages(3, table, 4, 3, 8);
-    release(3, table, 4, 2);
+    open(5, table);
+    grant_pages(5, table, 4, 0, 3);
+    grant_pages(5, table, 4, 1, 1);
+    grant_pages(5, table, 4, 2, 0);
+    grant_pages(5, table, 4, 3, 0);
+    grant_pages(5, table, 4, 3, 7);
+    grant_pages(5, table, 4, 4, 1);
+    grant_pages(5, table, 4, 5, 0);
+    grant_pages(5, table, 4, 4, 31);
+    grant_pages(5, table, 4, 4, 32);
+    grant_pages(5, table, 4, 4, 0);
+    release(5, table, 4, 2);
     show(table);
 }
 
@@ -217,7 +220,7 @@ fn of_length(table: &mut [u16]) {
     open(13, table);
     open(3, table);
     grant(3, table, 4, 0, 0);
-    grant_pages(3, table, 4, 1, 0);
+    grant_pages(3, table, 4, 1, 1);
     release(3, table, 4, 1);
     show(table);
 }
@@ -264,6 +267,7 @@ fn full() {
     release(12, table, 4, 0);
     grant(12, table, 4, 0, 1);
     grant_pages(12, table, 4, 0, 0);
+    grant(12, table, 4, 0, 0);
 }
 
 fn fill(table: &mut [u16]) {

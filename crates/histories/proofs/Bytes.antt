@@ -136,7 +136,7 @@ same-report h B l o₁ o₂ r₁ r₂ image₁ image₂ list₁ list₂ image₁
     room (p₁ .answer ∙ a) (p₂ .answer ∙ b) (rw (p₁ .count) m) (rw (p₂ .count) k) n
 
 pub boxes-of-tables : (h : ℕ) (H₁ H₂ : History h) {T₁ T₂ answers₁ answers₂ : List ℕ} → T₁ ≡ tableAfter h H₁ → T₂ ≡ tableAfter h H₂
-    → answers₁ ≡ answersOf h H₁ → answers₂ ≡ answersOf h H₂ → Boxes h T₁ T₂ (bookOf (H₁ .calls) answers₁) (bookOf (H₂ .calls) answers₂)
+    → answers₁ ≡ answersOf h H₁ → answers₂ ≡ answersOf h H₂ → Boxes h T₁ T₂ (bookOf h (H₁ .calls) answers₁) (bookOf h (H₂ .calls) answers₂)
 boxes-of-tables h H₁ H₂ t₁ t₂ a₁ a₂ = rw (t₁, t₂, a₁, a₂) (demand-3 h H₁ H₂)
 
 pub demand-3-of-bytes : BytesDemand3

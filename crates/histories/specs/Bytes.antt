@@ -28,8 +28,8 @@ pub data Led (h : ℕ) : List ℕ → List Call → List ℕ → Type 0 where
       → Led h image′ (calls ++ call (entriesIn list) ∷ []) (answers ++ r .answer ∷ [])
 
 -- the book of such a history: from the calls' arguments and the numbers reported alone
-abbrev pub bookOf : List Call → List ℕ → Book
-bookOf calls answers = bookFrom (λ t. none) calls answers
+abbrev pub bookOf : ℕ → List Call → List ℕ → Book
+bookOf h calls answers = bookFrom h (λ t. none) calls answers
 
 -- two reports: both "no room" and there is no legal placement, or both 0 and each with at most three moves
 pub data SameReport (h : ℕ) (B : Book) (l : ℕ) (one two : Outcome) : Type 0 where
@@ -53,7 +53,7 @@ pub record BoxesOfBytes (h : ℕ) (image₁ image₂ : List ℕ) (B₁ B₂ : Bo
   -- what two requests for one level report next, where the books hold equal sizes and nothing for the two tenants
   pub same-reports : ((l : ℕ) → held B₁ l ≡ held B₂ l) → (call₁ call₂ : ℕ → Call) (list₁ list₂ image₁′ image₂′ list₁′ list₂′ : List ℕ)
       (r₁ r₂ : Outcome) → CalledOn h call₁ image₁ list₁ r₁ image₁′ list₁′ → CalledOn h call₂ image₂ list₂ r₂ image₂′ list₂′
-      → (l : ℕ) → Asks (call₁ (entriesIn list₁)) l → Asks (call₂ (entriesIn list₂)) l
+      → (l : ℕ) → Asks h (call₁ (entriesIn list₁)) l → Asks h (call₂ (entriesIn list₂)) l
       → Valid h (call₁ (entriesIn list₁)) → Valid h (call₂ (entriesIn list₂))
       → B₁ (tenantOf (call₁ (entriesIn list₁))) ≡ none → B₂ (tenantOf (call₂ (entriesIn list₂))) ≡ none → SameReport h B₁ l r₁ r₂
 
@@ -61,4 +61,4 @@ pub record BoxesOfBytes (h : ℕ) (image₁ image₂ : List ℕ) (B₁ B₂ : Bo
 abbrev pub BytesDemand3 : Type 0
 BytesDemand3 = (h : ℕ) (image₁ image₂ answers₁ answers₂ : List ℕ) (calls₁ calls₂ : List Call)
     → Led h image₁ calls₁ answers₁ → Led h image₂ calls₂ answers₂
-    → BoxesOfBytes h image₁ image₂ (bookOf calls₁ answers₁) (bookOf calls₂ answers₂)
+    → BoxesOfBytes h image₁ image₂ (bookOf h calls₁ answers₁) (bookOf h calls₂ answers₂)

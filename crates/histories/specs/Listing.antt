@@ -86,7 +86,7 @@ tableAt h accepted rs = tableAfter h (historyOf h accepted rs)
 
 -- the book then: from the records' arguments and the answers in their lines alone
 abbrev pub bookAt : (h : ℕ) → Opens h → List Record → Book
-bookAt h accepted rs = bookOf (callsOf rs) (map (λ (o : Outcome). o .answer) (reported h accepted rs))
+bookAt h accepted rs = bookOf h (callsOf rs) (map (λ (o : Outcome). o .answer) (reported h accepted rs))
 
 -- a point of a listing: the lines so far and those to come, and what holds of the table and the book there
 pub record Point (journal : List ℕ) (h : ℕ) (accepted : Opens h) (before after : List Record) (last : Read) : Type 0 where

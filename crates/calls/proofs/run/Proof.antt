@@ -41,7 +41,7 @@ change-requires c κs =
     let asked = x .call-refusal .ensures in
     let none = passed .if1 .left in (
       rw (c .before .tenant .ensures ∙ same-tenant (a .call) (a .entries)) (ready (a .height) T call k asked none),
-      rw (c .wanted .ensures ∙ same-wanted (a .call) (a .entries)) (in-height (a .height) T call k asked none),
+      rw (c .wanted .ensures ∙ same-wanted (a .height) (a .call) (a .entries)) (in-height (a .height) T call k asked none),
     )
 
 same-length : tie.Need-same-length
@@ -57,7 +57,7 @@ returns-2 c =
     let call = callOf (a .call) (a .entries) in
     gives-same (c .before .before .change .ensures)
     (ap (λ (t : ℕ). changeOn (a .height) T t (y .wanted .result)) (y .before .tenant .ensures ∙ same-tenant (a .call) (a .entries))
-    ∙ ap (changeOn (a .height) T (tenantOf call)) (y .wanted .ensures ∙ same-wanted (a .call) (a .entries))
+    ∙ ap (changeOn (a .height) T (tenantOf call)) (y .wanted .ensures ∙ same-wanted (a .height) (a .call) (a .entries))
     ∙ call-changes (a .height) T call (x .call-refusal .result) (x .call-refusal .ensures) (passed .if1 .left))
 
 pub run-spec : {M : Type 1} → statement M

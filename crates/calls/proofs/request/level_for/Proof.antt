@@ -1,4 +1,4 @@
--- `calls::request::level_for` meets its contract: no size takes level 0, and any other the smallest level for one page more.
+-- `calls::request::level_for` meets its contract: no size takes level 4 or the height, and any other the smallest level for one page more.
 use mathlib.Core.Path.{sym, _∙_}
 use native.Mathlib.Omega.{arith}
 use borrow.Author.Needs.{needs}
@@ -6,8 +6,13 @@ use Rattle.calls.proofs.Level.{level-for-none, level-for-named}
 use Rattle.calls.proofs.request.level_for.Statement.{statement}
 use Rattle.calls.proofs.request.level_for.Tie as tie
 
+level-of-no-size-requires : tie.Need-level-of-no-size-requires
+level-of-no-size-requires c κs = search needs
+
 returns : tie.Need-returns
-returns c = sym (level-for-none (c .before .args .pages) (c .if1 .taken))
+returns c =
+    let start = c .before .before in
+    c .level-of-no-size .ensures ∙ sym (level-for-none (start .args .height) (start .args .pages) (c .before .if1 .taken))
 
 add-least-level : tie.Need-add-least-level
 add-least-level c = search needs
@@ -16,7 +21,9 @@ least-level-requires : tie.Need-least-level-requires
 least-level-requires c κs = search needs
 
 returns-2 : tie.Need-returns-2
-returns-2 c = c .least-level .ensures ∙ sym (level-for-named (c .before .before .args .pages) (omega arith))
+returns-2 c =
+    let start = c .before .before in
+    c .least-level .ensures ∙ sym (level-for-named (start .args .height) (start .args .pages) (omega arith))
 
 pub level-for-spec : {M : Type 1} → statement M
-level-for-spec = tie.close (tie.spec returns add-least-level least-level-requires returns-2)
+level-for-spec = tie.close (tie.spec level-of-no-size-requires returns add-least-level least-level-requires returns-2)

@@ -1,0 +1,4 @@
+pub mod Laws
+pub mod Contents
+pub mod Writing
+pub mod Promises

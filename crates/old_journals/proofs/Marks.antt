@@ -1,0 +1,107 @@
+-- No line of a record has a `!` in it.
+use mathlib.Core.Bool.{Bool, true, false, cond}
+use mathlib.Core.List.{List, [], _∷_, _++_, map}
+use Prim.Native.Nat.{ℕ, zero, suc, _+_}
+use native.Mathlib.Omega.{arith}
+use lib.Dec.{eqb}
+use lib.ListN.{length}
+use Rattle.table.specs.declared.Move.{Move}
+use Rattle.journal.specs.declared.Record.{Record}
+use Rattle.journal.specs.Format.{who}
+use Rattle.calls.specs.Step.{Outcome}
+use Rattle.lines.specs.Ascii.{byte, bytes}
+use Rattle.lines.specs.Decimal.{decimal, AllDigits}
+use Rattle.lines.specs.Line.{spaced, joined, letter, size, nodeIfDone, nodeField, separator, moveField, moveFields, lineOf}
+use Rattle.lines.proofs.Decimal.{decimal-right}
+use Rattle.histories.specs.Listing.{linesAfter}
+use Rattle.old_journals.specs.Promises.{Unmarked}
+
+pub unmarked-both : (xs ys : List ℕ) → Unmarked xs → Unmarked ys → Unmarked (xs ++ ys)
+unmarked-both [] ys p q = q
+unmarked-both (x ∷ xs) ys p q = (p .0, unmarked-both xs ys (p .1) q)
+
+-- ---- fields
+
+digits-unmarked : (s : List ℕ) → AllDigits s → Unmarked s
+digits-unmarked [] d = tt
+digits-unmarked (c ∷ s) d = ((λ e. omega (arith, d .0 .0, e)), digits-unmarked s (d .1))
+
+decimal-unmarked : (n : ℕ) → Unmarked (decimal n)
+decimal-unmarked n = digits-unmarked (decimal n) (decimal-right n .digits)
+
+hyphen-unmarked : Unmarked (bytes "-")
+hyphen-unmarked = ((λ e. omega arith), tt)
+
+letter-unmarked : (r : Record) → Unmarked (letter r ∷ [])
+letter-unmarked (Record.Open height) = ((λ e. omega arith), tt)
+letter-unmarked (Record.GrantLevel tenant level) = ((λ e. omega arith), tt)
+letter-unmarked (Record.GrantPages tenant pages) = ((λ e. omega arith), tt)
+letter-unmarked (Record.Release tenant) = ((λ e. omega arith), tt)
+
+size-unmarked : (r : Record) → Unmarked (size r)
+size-unmarked (Record.Open height) = hyphen-unmarked
+size-unmarked (Record.GrantLevel tenant level) = decimal-unmarked level
+size-unmarked (Record.GrantPages tenant pages) = decimal-unmarked pages
+size-unmarked (Record.Release tenant) = hyphen-unmarked
+
+done-unmarked : (answer node : ℕ) → Unmarked (nodeIfDone answer node)
+done-unmarked zero node = decimal-unmarked node
+done-unmarked (suc number) node = hyphen-unmarked
+
+node-unmarked : (r : Record) (answer node : ℕ) → Unmarked (nodeField r answer node)
+node-unmarked (Record.Open height) answer node = hyphen-unmarked
+node-unmarked (Record.GrantLevel tenant level) answer node = done-unmarked answer node
+node-unmarked (Record.GrantPages tenant pages) answer node = done-unmarked answer node
+node-unmarked (Record.Release tenant) answer node = done-unmarked answer node
+
+separator-unmarked : (staged : ℕ) → Unmarked (separator staged ∷ [])
+separator-unmarked staged = go (eqb staged 0)
+  where
+    go : (b : Bool) → Unmarked (cond b (byte ">") (byte "=") ∷ [])
+    go true = ((λ e. omega arith), tt)
+    go false = ((λ e. omega arith), tt)
+
+move-unmarked : (m : Move) → Unmarked (moveField m)
+unfolding moveField
+move-unmarked m =
+    let tenant = unmarked-both (decimal (m .tenant)) (bytes ":") (decimal-unmarked (m .tenant)) ((λ e. omega arith), tt) in
+    let from = unmarked-both (decimal (m .tenant) ++ bytes ":") (decimal (m .from)) tenant (decimal-unmarked (m .from)) in
+    let to = unmarked-both (decimal (m .tenant) ++ bytes ":" ++ decimal (m .from)) (separator (m .staged) ∷ []) from (separator-unmarked (m .staged)) in
+    unmarked-both (decimal (m .tenant) ++ bytes ":" ++ decimal (m .from) ++ (separator (m .staged) ∷ [])) (decimal (m .to)) to
+    (decimal-unmarked (m .to))
+
+-- ---- lines
+
+-- fields without a mark
+abbrev AllUnmarked : List (List ℕ) → Type 0
+AllUnmarked [] = Unit {0}
+AllUnmarked (f ∷ fs) = Unmarked f × AllUnmarked fs
+
+spaced-unmarked : (fs : List (List ℕ)) → AllUnmarked fs → Unmarked (spaced fs)
+unfolding spaced
+spaced-unmarked [] p = tt
+spaced-unmarked (f ∷ fs) p = ((λ e. omega arith), unmarked-both f (spaced fs) (p .0) (spaced-unmarked fs (p .1)))
+
+moves-unmarked : (ms : List Move) → AllUnmarked (map moveField ms)
+moves-unmarked [] = tt
+moves-unmarked (m ∷ ms) = (move-unmarked m, moves-unmarked ms)
+
+joined-unmarked : (f : List ℕ) (fs : List (List ℕ)) → Unmarked f → AllUnmarked fs → Unmarked (joined f fs)
+joined-unmarked f fs p q =
+    unmarked-both (f ++ spaced fs) (bytes "\n") (unmarked-both f (spaced fs) p (spaced-unmarked fs q)) ((λ e. omega arith), tt)
+
+pub line-unmarked : (n : ℕ) (r : Record) (answer node : ℕ) (moves : List Move) → Unmarked (lineOf n r answer node moves)
+unfolding lineOf
+line-unmarked n r answer node moves =
+    let moved : AllUnmarked (moveFields moves) = (decimal-unmarked (length moves), moves-unmarked moves) in
+    let reported : AllUnmarked (decimal answer ∷ nodeField r answer node ∷ moveFields moves) =
+    (decimal-unmarked answer, (node-unmarked r answer node, moved)) in
+    joined-unmarked (decimal n) _ (decimal-unmarked n) (letter-unmarked r, (decimal-unmarked (who r), (size-unmarked r, reported)))
+
+pub lines-unmarked : (n : ℕ) (rs : List Record) (os : List Outcome) → Unmarked (linesAfter n rs os)
+unfolding linesAfter
+lines-unmarked n [] os = tt
+lines-unmarked n (r ∷ rs) [] = tt
+lines-unmarked n (r ∷ rs) (o ∷ os) =
+    unmarked-both (lineOf (n + 1) r (o .answer) (o .node) (o .moves)) (linesAfter (n + 1) rs os)
+    (line-unmarked (n + 1) r (o .answer) (o .node) (o .moves)) (lines-unmarked (n + 1) rs os)

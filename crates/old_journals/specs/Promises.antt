@@ -1,0 +1,62 @@
+-- When an old journal is converted, and what its conversion is answered. Document 02, L4.
+use mathlib.Core.Path.{_≡_}
+use mathlib.Core.List.{List, [], _∷_, _++_, map}
+use Prim.Native.Nat.{ℕ}
+use Rattle.journal.specs.declared.Record.{Record}
+use Rattle.journal.specs.declared.Read.{Read}
+use Rattle.journal.specs.Journal.{Reading}
+use Rattle.lines.specs.Ascii.{byte}
+use Rattle.lines.specs.Decimal.{decimal}
+use Rattle.lines.specs.Line.{stopLine}
+use Rattle.replay.specs.Listing.{listing}
+use Rattle.conversion.specs.Conversion.{converted, contents, convertedJournal}
+use Rattle.histories.specs.Listing.{Opens, reported, openLine, linesAfter}
+use Rattle.old_journals.specs.Former.{formerReports, formerListing}
+
+-- ---- when
+
+-- no byte is `!`
+abbrev pub Unmarked : List ℕ → Type 0
+Unmarked [] = Unit {0}
+Unmarked (b ∷ bs) = ¬ (b ≡ byte "!") × Unmarked bs
+
+-- how the listing of a journal ends: without a `!`, or with the one line of a refusal that begins with it
+pub data ListingEnds (journal : List ℕ) : Read → Type 0 where
+  without-mark : Unmarked (listing journal) → ListingEnds journal Read.End
+  with-mark : {number offset : ℕ} (lines : List ℕ) → Unmarked lines → listing journal ≡ lines ++ stopLine offset number
+      → ListingEnds journal (Read.Refused number offset)
+
+-- a journal is refused exactly if its listing ends with `!`, and with the number and the offset in that line
+abbrev pub RefusedAsListed : Type 0
+RefusedAsListed = (journal : List ℕ) → ListingEnds journal (contents journal .last)
+
+-- ---- what the conversion is answered
+
+-- two lines that differ in nothing but their letter, which stands behind the ordinal and a space
+pub record SameButLetter (ordinal : ℕ) (old new : List ℕ) : Type 0 where
+  pub old-letter : ℕ
+  pub new-letter : ℕ
+  pub rest : List ℕ
+  pub old-line : old ≡ decimal ordinal ++ byte " " ∷ old-letter ∷ rest
+  pub new-line : new ≡ decimal ordinal ++ byte " " ∷ new-letter ∷ rest
+
+-- lines that do so one by one
+pub data LinesAlike : List ℕ → List ℕ → Type 0 where
+  no-more : LinesAlike [] []
+  line-more : {ordinal : ℕ} (old new : List ℕ) {olds news : List ℕ} → SameButLetter ordinal old new → LinesAlike olds news
+      → LinesAlike (old ++ olds) (new ++ news)
+
+-- a good journal, which reads as an open of height h and the records rs
+pub record AnsweredAlike (journal : List ℕ) (h : ℕ) (accepted : Opens h) (rs : List Record) : Type 0 where
+  -- the converted journal reads as the converted records
+  pub reads : Reading (convertedJournal journal) 0 (Record.Open h ∷ map converted rs) Read.End
+  -- they are answered as the old ones were: the same answers, nodes, moves and tables, record by record
+  pub reports : reported h accepted (map converted rs) ≡ formerReports h rs
+  -- so the listing has the old listing's lines, but for the letter of the converted ones: their size is 0 before and after
+  pub lists : listing (convertedJournal journal) ≡ openLine h ++ linesAfter 1 (map converted rs) (formerReports h rs)
+  pub alike : LinesAlike (formerListing h rs) (listing (convertedJournal journal))
+
+-- the promise for every journal
+abbrev pub AnsweredAsBefore : Type 0
+AnsweredAsBefore = (journal : List ℕ) (h : ℕ) (accepted : Opens h) (rs : List Record) → Reading journal 0 (Record.Open h ∷ rs) Read.End
+    → AnsweredAlike journal h accepted rs
