@@ -14,8 +14,9 @@
  * MOVES, below). reserve_node_pages says which pages a node covers.
  *
  * A grant names its block by level or by pages. A tenant that names pages gets one more, a guard page right behind them, in
- * case it runs over: p pages, p above 0, get the smallest block of p + 1 or more. 0 pages name no size and get a block of one
- * page, without a guard page. A block that is named by its level has just its 2^level pages.
+ * case it runs over: p pages, p above 0, get the smallest block of p + 1 or more. 0 pages name no size and get a block of 16
+ * pages, or the whole of a reserve under height 4, without a guard page. A block that is named by its level has just its
+ * 2^level pages: who needs a single page asks for level 0.
  *
  * THE MOVES
  *
@@ -107,7 +108,7 @@ extern "C" {
  * arguments raises it: the major number, and the minor one is then 0, if programs have to be changed or compiled again; the
  * minor number if something is only added. 2.0: a grant by pages has a guard page. 3.0: a move has a fourth number, and the
  * moves stand in an order in which they can be carried out. */
-#define RESERVE_VERSION_MAJOR 3
+#define RESERVE_VERSION_MAJOR 4
 #define RESERVE_VERSION_MINOR 0
 #define RESERVE_VERSION (1000 * RESERVE_VERSION_MAJOR + RESERVE_VERSION_MINOR)
 
@@ -199,8 +200,8 @@ uint16_t reserve_open(uint16_t height, uint8_t *table, size_t table_length);
 struct reserve_outcome reserve_grant_level(uint16_t height, uint8_t *table, size_t table_length, uint8_t *moves,
                                            size_t moves_length, uint16_t tenant, uint16_t level);
 
-/* Grants a tenant the smallest block that has so many pages and one more, the guard page; 0 pages get a block of one page.
- * Answers 0, or 1 to 4, 6 to 8 or 10. */
+/* Grants a tenant the smallest block that has so many pages and one more, the guard page; 0 pages get a block of 16 pages, or the
+ * whole of a reserve under height 4. Answers 0, or 1 to 4, 6 to 8 or 10; 6 never for 0 pages. */
 struct reserve_outcome reserve_grant_pages(uint16_t height, uint8_t *table, size_t table_length, uint8_t *moves,
                                            size_t moves_length, uint16_t tenant, uint16_t pages);
 
