@@ -1,3 +1,4 @@
 pub mod Whole
 pub mod Word
 pub mod Message
+pub mod File

@@ -5,15 +5,21 @@ use Prim.Native.Nat.{ℕ, _+_, _-_, _≤_, min}
 use lib.ListN.{length, take}
 use lib.Seq.{paste}
 use Rattle.lines.specs.Ascii.{bytes}
+use Rattle.lines.specs.Decimal.{decimal}
 
 -- the program, what it could not do, and what it could not do it to
 abbrev pub cannot : List ℕ → List ℕ → List ℕ → List ℕ
 cannot program deed thing = program ++ bytes ": cannot " ++ deed ++ bytes " " ++ thing
 
--- so many bytes at the start of the text are the message, or as much of it as goes in
-pub record Begins (n : ℕ) (text message : List ℕ) : Type 0 where
+-- the same with the number of a refusal and the offset in the journal that it concerns, as a line
+abbrev pub refusedAt : List ℕ → List ℕ → List ℕ → ℕ → ℕ → List ℕ
+refusedAt program deed thing number offset =
+    cannot program deed thing ++ bytes ": refusal " ++ decimal number ++ bytes " at offset " ++ decimal offset ++ bytes "\n"
+
+-- so many bytes at the start of the text are those of s, or as many of them as go in
+pub record Begins (n : ℕ) (text s : List ℕ) : Type 0 where
   pub within : n ≤ length text
-  pub bytes : take n text ≡ take (length text) message
+  pub bytes : take n text ≡ take (length text) s
 
 -- after the first n bytes of `before` come those of `more`, as many as there is room for; r is the index after them
 pub record Appended (n : ℕ) (more before : List ℕ) (r : ℕ) (after : List ℕ) : Type 0 where

@@ -1,9 +1,12 @@
 // What programs that work on journals share: their arguments, reading and writing whole, and what they say on standard error.
+mod file;
 mod message;
 mod whole;
 mod word;
 
+pub use file::write_file;
 pub use message::complain;
+pub use message::refuse;
 pub use whole::Input;
 pub use whole::read_all;
 pub use whole::write_all;
@@ -101,6 +104,26 @@ fn read_from(program: &[u8], fd: i32, name: &[u8], buf: &mut [u8]) -> Input
         Input::Failed => complain(program, b"read", name),
     }
     input
+}
+
+// Says on standard error that the journal in the file of that name, or on standard input for `-`, is refused.
+pub fn refuse_input(program: &[u8], deed: &[u8], name: &[u8], number: u16, offset: usize) {
+    if check::same(name, b"-") {
+        refuse(program, deed, b"standard input", number, offset);
+        return;
+    }
+    refuse(program, deed, name, number, offset);
+}
+
+// Writes all of the bytes to the file of that name, as `write_file` does, or to standard output for `-`, which it then closes.
+pub fn write_to(program: &[u8], name: &[u8], bytes: &[u8]) {
+    if !check::same(name, b"-") {
+        write_file(program, name, bytes);
+        return;
+    }
+    if write_output(program, bytes) {
+        close_output(program);
+    }
 }
 
 // Writes all of the bytes to standard output, or says on standard error why they cannot be written.

@@ -1,0 +1,66 @@
+// Writing a file whole: the bytes go into a new file beside it, which takes its name once all of them are there.
+ghost use Rattle.command.specs.Message.{Begins};
+ghost use Rattle.command.specs.File.{partOf};
+use crate::message::append;
+use crate::message::complain;
+use crate::whole::write_all;
+
+// Writes all of the bytes to the file of that name, which need not be there, and answers true; or says on standard error why they cannot be
+// written, leaves what has the name as it was, and answers false.
+pub fn write_file(program: &[u8], name: &[u8], bytes: &[u8]) -> bool {
+    // A name that did not fit would be cut, and could be that of another file. No path is as long as this.
+    let mut text = [0u8; 8192];
+    let n = part_name(name, &mut text);
+    write_through(program, &text[..n], name, bytes)
+}
+
+// Writes the bytes to a new file, the part, which then takes the name. If that fails, the part is removed; if there is a file of its name from the
+// start, that one stays.
+fn write_through(program: &[u8], part: &[u8], name: &[u8], bytes: &[u8]) -> bool {
+    let fd = os::create(part);
+    if fd < 0 {
+        complain(program, b"write", part);
+        return false;
+    }
+    let done = fill(program, fd, part, bytes) && take_name(program, part, name);
+    if !done {
+        os::unlink(part);
+    }
+    done
+}
+
+// Stores the bytes in the new file and closes it, in any case. What fails is said before another call changes errno.
+fn fill(program: &[u8], fd: i32, part: &[u8], bytes: &[u8]) -> bool {
+    if !store(fd, bytes) {
+        complain(program, b"write", part);
+        libc::close(fd);
+        return false;
+    }
+    if libc::close(fd) < 0 {
+        complain(program, b"write", part);
+        return false;
+    }
+    true
+}
+
+// Writes the bytes and waits until they have reached the device, so that after a power cut the name does not stand for a file without them.
+fn store(fd: i32, bytes: &[u8]) -> bool {
+    write_all(fd, bytes) && libc::fsync(fd) == 0
+}
+
+// Gives the part the file's name.
+fn take_name(program: &[u8], part: &[u8], name: &[u8]) -> bool {
+    if os::rename(part, name) < 0 {
+        complain(program, b"write", name);
+        return false;
+    }
+    true
+}
+
+// Puts the name of the part into lent bytes, as far as there is room, and answers how many it has there.
+fn part_name(name: &[u8], text: &mut [u8]) -> usize
+    ensures { λ r. ⌜ Begins r (now (text .exit)) (partOf (now (name .entry))) ⌝ }
+{
+    let n = append(text, 0, name);
+    append(text, n, b".part")
+}
