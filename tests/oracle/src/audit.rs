@@ -3,7 +3,7 @@
 //! Nothing here plans: the moves are held against the differences of the tables and against the rules for who stays,
 //! who goes where, in which order, and how many may be moved at all; and they are carried out.
 
-use crate::book::{level_wanted, occupied};
+use crate::book::occupied;
 use crate::carrying::Move;
 use crate::definitions::{Node, Tree};
 use crate::occupancy::is_legal_and_safe;
@@ -54,9 +54,10 @@ pub fn audit(tree: Tree, seen: &Seen) -> Result<(), String> {
         seen.moves
     );
     carry_out(tree, seen.before, seen.after, seen.moves)?;
-    let most = match level_wanted(seen.request) {
-        Some(_) => MOST_FOR_GRANT,
-        None => MOST_FOR_RELEASE,
+    let most = if seen.request.is_grant() {
+        MOST_FOR_GRANT
+    } else {
+        MOST_FOR_RELEASE
     };
     ensure!(seen.moves.len() <= most, "{} tenants are moved", seen.moves.len());
     Ok(())
@@ -66,9 +67,10 @@ pub fn audit(tree: Tree, seen: &Seen) -> Result<(), String> {
 fn own_entry(seen: &Seen) -> Result<(), String> {
     let tenant = seen.request.tenant() as usize;
     let entries = (seen.before[tenant], seen.after[tenant]);
-    let expected = match level_wanted(seen.request) {
-        Some(_) => (0, seen.node),
-        None => (seen.node, 0),
+    let expected = if seen.request.is_grant() {
+        (0, seen.node)
+    } else {
+        (seen.node, 0)
     };
     ensure!(
         seen.node != 0 && entries == expected,
@@ -128,7 +130,7 @@ fn pairing_is_left_to_right(tree: Tree, seen: &Seen) -> Result<(), String> {
             pair[1]
         );
     }
-    if level_wanted(seen.request).is_some() {
+    if seen.request.is_grant() {
         let passed = seen
             .moves
             .iter()

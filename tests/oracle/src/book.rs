@@ -85,7 +85,7 @@ impl Book {
     /// Why a valid request or release is still turned down.
     fn why_not_granted(&self, request: Request) -> Option<Refusal> {
         let holds = self.level_of(request.tenant()).is_some();
-        match level_wanted(request) {
+        match level_wanted(self.tree, request) {
             None => (!holds).then_some(Refusal::HoldsNothing),
             Some(_) if holds => Some(Refusal::HoldsAlready),
             Some(level) => (1 << level > self.room()).then_some(Refusal::NoRoom),
@@ -97,7 +97,7 @@ impl Book {
         if answer != DONE {
             return;
         }
-        match level_wanted(request) {
+        match level_wanted(self.tree, request) {
             Some(level) => self.write_down(request.tenant(), level),
             None => self.strike_out(request.tenant()),
         }
@@ -135,10 +135,10 @@ impl Book {
 }
 
 /// The level that a grant asks for.
-pub fn level_wanted(request: Request) -> Option<u32> {
+pub fn level_wanted(tree: Tree, request: Request) -> Option<u32> {
     match request {
         Request::GrantLevel { level, .. } => Some(level),
-        Request::GrantPages { pages, .. } => Some(level_for_pages(pages)),
+        Request::GrantPages { pages, .. } => Some(level_for_pages(tree, pages)),
         Request::Release { .. } => None,
     }
 }

@@ -30,6 +30,29 @@ impl Request {
             }
         }
     }
+
+    pub fn is_grant(self) -> bool {
+        !matches!(self, Request::Release { .. })
+    }
+}
+
+/// What an image gets that names no size, which is a grant of 0 pages.
+#[derive(Clone, Copy, Debug, PartialEq, Eq)]
+pub enum Unnamed {
+    /// Sixteen pages without a guard page, or the whole of a reserve that has fewer.
+    SixteenPages,
+    /// One page, as it was before. Old journals mean this.
+    OnePage,
+}
+
+impl Unnamed {
+    fn level(self, tree: Tree) -> u32 {
+        match self {
+            Unnamed::SixteenPages if tree.height() < 4 => tree.height(),
+            Unnamed::SixteenPages => 4,
+            Unnamed::OnePage => 0,
+        }
+    }
 }
 
 /// What a planning call is lent: the table, and room for so many moves.
@@ -80,14 +103,23 @@ pub fn open(height: u32, table: &[Node]) -> Outcome {
 
 /// Grants or releases.
 pub fn call(lent: Lent, request: Request) -> Outcome {
-    outcome(lent.table, plan(lent, request))
+    call_under(Unnamed::SixteenPages, lent, request)
 }
 
-/// The level of the smallest block with room for so many pages and the guard page behind them. Without a size given that
-/// is a single page.
-pub fn level_for_pages(pages: u32) -> u32 {
+/// The same under one of the rules for images that name no size.
+pub fn call_under(unnamed: Unnamed, lent: Lent, request: Request) -> Outcome {
+    outcome(lent.table, plan(unnamed, lent, request))
+}
+
+/// The level of the smallest block with room for so many pages and the guard page behind them, or that of an image that
+/// names no size.
+pub fn level_for_pages(tree: Tree, pages: u32) -> u32 {
+    level_under(Unnamed::SixteenPages, tree, pages)
+}
+
+fn level_under(unnamed: Unnamed, tree: Tree, pages: u32) -> u32 {
     if pages == 0 {
-        return 0;
+        return unnamed.level(tree);
     }
     let needed = u64::from(pages) + 1;
     (0..)
@@ -156,14 +188,17 @@ pub(crate) fn check_table(tree: Tree, table: &[Node]) -> Result<Counts, Refusal>
     }
 }
 
-fn plan(lent: Lent, request: Request) -> Result<Plan, Refusal> {
+fn plan(unnamed: Unnamed, lent: Lent, request: Request) -> Result<Plan, Refusal> {
     let tree = check_reserve(lent.height, lent.table)?;
     check_request(tree, lent.entries, request)?;
     let counts = check_table(tree, lent.table)?;
     let tenant = request.tenant() as usize;
     match request {
         Request::GrantLevel { level, .. } => grant(tree, lent.table, counts, tenant, level),
-        Request::GrantPages { pages, .. } => grant(tree, lent.table, counts, tenant, level_for_pages(pages)),
+        Request::GrantPages { pages, .. } => {
+            let level = level_under(unnamed, tree, pages);
+            grant(tree, lent.table, counts, tenant, level)
+        }
         Request::Release { .. } => release(tree, lent.table, counts, tenant),
     }
 }

@@ -9,8 +9,7 @@ use made_up::MadeUp;
 use oracle::carrying::Move;
 use oracle::compare::{first_finding, run, same_history, Amounts, Tally};
 use oracle::definitions::{Node, Tree};
-use oracle::generate::{history, Call};
-use oracle::planner::Request;
+use oracle::generate::history;
 use oracle::random::Random;
 use oracle::runtime::{carry_out, staged_come_last};
 use oracle::shrink::shorten;
@@ -128,20 +127,19 @@ fn a_failing_history_is_shown_short() {
         same_history(&mut ThirdOfItsSize, &history).is_err()
     });
     assert_eq!(short.len(), 3, "{short:?}");
-    let is_grant = |call: &Call| !matches!(call.request, Request::Release { .. });
-    assert!(short.iter().all(is_grant), "{short:?}");
+    assert!(short.iter().all(|call| call.request.is_grant()), "{short:?}");
 }
 
 #[test]
 fn a_finding_names_the_seed_and_the_calls() {
     let amounts = Amounts {
         tallest_for_all_counts: 0,
-        ..Amounts::quick(24)
+        ..Amounts::quick(27)
     };
     let (tally, report) = reported(&mut ThirdOfItsSize, &amounts);
     assert!(tally.failed >= 2, "{report}");
     let part = report
-        .split("histories: different, seed 24\n")
+        .split("histories: different, seed 27\n")
         .nth(1)
         .expect("a finding");
     let mut lines = part.lines();

@@ -5,7 +5,7 @@ mod small;
 use std::collections::{BTreeMap, BTreeSet};
 
 use oracle::audit::{audit, is_in_order, Seen, MOST_FOR_GRANT, MOST_FOR_RELEASE};
-use oracle::book::{level_wanted, occupied, Book};
+use oracle::book::{occupied, Book};
 use oracle::definitions::{Node, Tree, TALLEST};
 use oracle::generate::{any_fill, history, history_on_full, holders_for, seat, steer, Call, Damage, History};
 use oracle::planner::{self, Lent, Outcome, Request, TENANTS};
@@ -57,9 +57,10 @@ struct Seldom {
 impl Seldom {
     fn note(&mut self, book: &Book, call: &Call, outcome: &Outcome) {
         *self.answers.entry(outcome.answer).or_default() += 1;
-        let most = match level_wanted(call.request) {
-            Some(_) => &mut self.most_for_grant,
-            None => &mut self.most_for_release,
+        let most = if call.request.is_grant() {
+            &mut self.most_for_grant
+        } else {
+            &mut self.most_for_release
         };
         *most = outcome.moves.len().max(*most);
         let staged = outcome.moves.iter().filter(|step| step.staged).count();

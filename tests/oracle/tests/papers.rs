@@ -8,7 +8,7 @@ use oracle::journal::{self, Reading, Record, LONGEST};
 use oracle::lifting::layout;
 use oracle::listing::list;
 use oracle::page_map::{self, MAP_BYTES};
-use oracle::planner::{self, Lent, Outcome, Request, TENANTS};
+use oracle::planner::{self, Lent, Outcome, Request, Unnamed, TENANTS};
 use oracle::refusal::Refusal;
 use oracle::subject::{moves_from, put_moves, Oracle, Subject, FEWEST_MOVE_BYTES, MOVE_BYTES};
 
@@ -200,10 +200,10 @@ fn refused_arguments_are_lines_of_the_listing() {
 2 G 4096 0 4 - 0
 3 G 0 2 5 - 0
 4 P 0 3 6 - 0
-5 P 4095 0 0 2 0
+5 P 4095 0 0 1 0
 6 G 4095 0 8 - 0
 7 R 65535 - 4 - 0
-8 R 4095 - 0 2 0
+8 R 4095 - 0 1 0
 ";
     assert_eq!(listing(&journal), expected);
 }
@@ -270,8 +270,11 @@ fn opening_empties_any_table() {
 
 #[test]
 fn pages_and_a_guard_page_are_rounded_up_to_a_block() {
-    let levels = [0, 1, 2, 3, 4, 7, 8, 2047, 2048, 4095, 4096, 65_535].map(planner::level_for_pages);
-    assert_eq!(levels, [0, 1, 2, 2, 3, 3, 4, 11, 12, 12, 13, 16]);
+    for height in 0..=12 {
+        let level = |pages| planner::level_for_pages(Tree::new(height), pages);
+        let levels = [1, 2, 3, 4, 7, 8, 2047, 2048, 4095, 4096, 65_535].map(level);
+        assert_eq!(levels, [1, 2, 2, 3, 3, 4, 11, 12, 12, 13, 16]);
+    }
     let empty = table(&[]);
     assert_eq!(call(3, &empty, grant_pages(0, 3)).node, 2);
 }
@@ -282,7 +285,6 @@ fn named_sizes_leave_a_page_for_the_guard() {
     for height in 0..=12 {
         let all = 1 << height;
         let get = |pages| call(height, &empty, grant_pages(0, pages));
-        assert_eq!(get(0).node, all as Node);
         for pages in [all, all + 1, 65_535] {
             assert_eq!(get(pages).answer, 6, "{pages} pages at height {height}");
         }
@@ -290,6 +292,75 @@ fn named_sizes_leave_a_page_for_the_guard() {
         if height > 0 {
             assert_eq!(get(all - 1).node, 1);
             assert_eq!(get(1).node, all as Node / 2);
+        }
+    }
+}
+
+/// The levels that images get that name no size, by height: 4, or the whole reserve.
+const UNNAMED: [u32; 13] = [0, 1, 2, 3, 4, 4, 4, 4, 4, 4, 4, 4, 4];
+
+#[test]
+fn images_that_name_no_size_get_sixteen_pages() {
+    for (height, level) in (0..).zip(UNNAMED) {
+        let tree = Tree::new(height);
+        let outcome = call(height, &table(&[]), grant_pages(4095, 0));
+        assert_eq!((outcome.answer, outcome.moves.len()), (0, 0), "height {height}");
+        assert_eq!(outcome.node, tree.nodes_at(level).start, "height {height}");
+        assert_eq!(tree.pages(outcome.node).len(), 16.min(1 << height));
+        // What a grant of that level does, for the same tenant and for the next.
+        assert_eq!(outcome, call(height, &table(&[]), grant(4095, level)));
+        let next = call(height, &outcome.table, grant_pages(0, 0));
+        assert_eq!(next, call(height, &outcome.table, grant(0, level)), "height {height}");
+        assert_eq!(next.answer, if height <= 4 { 10 } else { 0 });
+    }
+}
+
+/// There is no guard page: the reserve takes as many of them as sixteen pages go into its own.
+#[test]
+fn as_many_images_without_a_size_fit_as_sixteen_pages_go_into_a_reserve() {
+    for height in 0..=12u32 {
+        let mut held = table(&[]);
+        let images = (1 << height) / 16.min(1 << height);
+        for tenant in 0..images {
+            let outcome = call(height, &held, grant_pages(tenant, 0));
+            assert_eq!(outcome.answer, 0, "tenant {tenant} at height {height}");
+            held = outcome.table;
+        }
+        let further = [grant_pages(images, 0), grant(images, 0), grant_pages(0, 0)];
+        let answers = further.map(|request| call(height, &held, request).answer);
+        assert_eq!(answers, [10, 10, 8], "height {height}");
+    }
+}
+
+/// Fifteen free pages are too few where a block has sixteen, and so is all but one page of a small reserve.
+#[test]
+fn images_without_a_size_are_refused_where_a_page_is_missing() {
+    for (height, level) in (0..).zip(UNNAMED) {
+        let tree = Tree::new(height);
+        let others = tree.pages_in_all() - (1 << level);
+        let answer_beside = |single_pages: u32| {
+            let nodes = layout(tree, &counts(&[single_pages])).expect("pages that fit");
+            call(height, &table(&nodes), grant_pages(4095, 0)).answer
+        };
+        let answers = [others, others + 1].map(answer_beside);
+        assert_eq!(answers, [0, 10], "height {height}");
+    }
+}
+
+#[test]
+fn the_rule_before_gave_one_page() {
+    let held = table(&[]);
+    for height in 0..=12 {
+        let lent = Lent {
+            height,
+            table: &held,
+            entries: 4,
+        };
+        let before = |request| planner::call_under(Unnamed::OnePage, lent, request);
+        assert_eq!(before(grant_pages(7, 0)), before(grant(7, 0)), "height {height}");
+        // Nothing else differs from the rule of today.
+        for request in [grant_pages(7, 1), grant_pages(7, 1 << height), grant(7, 0), release(7)] {
+            assert_eq!(before(request), call(height, &held, request), "height {height}");
         }
     }
 }

@@ -382,7 +382,7 @@ fn newcomer_gets_the_same(
         pages: (1 << level) - 1,
     });
     for request in by_level.chain(by_pages) {
-        let fits = level_wanted(request).is_some_and(|level| 1 << level <= book.room());
+        let fits = level_wanted(tree, request).is_some_and(|level| 1 << level <= book.room());
         let due = if fits { DONE } else { Refusal::NoRoom.number() };
         for table in tables {
             let mut moves = pattern(FEWEST_MOVE_BYTES);

@@ -3,7 +3,7 @@
 use super::calls::{check_one, same_call, same_opening};
 use super::Amounts;
 use crate::definitions::{Counts, Tree, TALLEST};
-use crate::generate::{holders_for, Call};
+use crate::generate::{any_fill, holders_for, Call};
 use crate::planner::{level_for_pages, Request, TENANTS};
 use crate::random::Random;
 use crate::subject::{Reach, Subject};
@@ -65,31 +65,39 @@ fn sizes_beside(pages_in_all: u32) -> [u32; 7] {
     [0, 1, all.saturating_sub(2), all - 1, all, all + 1, 0xffff]
 }
 
-/// Grants by pages at every height, with sizes at and beside their bounds: on an empty reserve, where the block just fits, and
-/// where it lacks a page; to a newcomer and to a holder.
+/// So many reserves of each height, filled to any degree, are asked for no size.
+const FILLS: usize = 12;
+
+/// Grants by pages at every height, with sizes at and beside their bounds: on an empty reserve, where the block just fits,
+/// where it lacks a page, and on a full one; to a newcomer and to a holder. Images that name no size come to all kinds of
+/// reserves.
 pub fn sizes(subject: &mut dyn Subject, _: &Amounts, random: &mut Random) -> Result<usize, String> {
     let mut comparisons = 0;
     for tree in (0..=TALLEST).map(Tree::new) {
         let all = tree.pages_in_all();
         for pages in sizes_beside(all) {
-            let block = 1 << level_for_pages(pages).min(tree.height());
-            for room in [all, block, block - 1] {
-                comparisons += check_size(subject, random, tree, room, pages)?;
+            let block = 1 << level_for_pages(tree, pages).min(tree.height());
+            for room in [all, block, block - 1, 0] {
+                comparisons += check_size(subject, random, tree, &all_but(tree, room), pages)?;
             }
+        }
+        for _ in 0..FILLS {
+            let counts = any_fill(random, tree);
+            comparisons += check_size(subject, random, tree, &counts, 0)?;
         }
     }
     Ok(comparisons)
 }
 
-/// Asks for a size where so many pages are left, for a tenant that holds nothing and for one that holds a block.
+/// Asks for a size where so many blocks are held, for a tenant that holds nothing and for one that holds a block.
 fn check_size(
     subject: &mut dyn Subject,
     random: &mut Random,
     tree: Tree,
-    room: u32,
+    counts: &Counts,
     pages: u32,
 ) -> Result<usize, String> {
-    let holders = holders_for(random, &all_but(tree, room));
+    let holders = holders_for(random, counts);
     let newcomer = (0..TENANTS as u16).find(|&tenant| holders.iter().all(|holder| holder.tenant != tenant));
     let tenants = newcomer.into_iter().chain(holders.first().map(|holder| holder.tenant));
     let mut comparisons = 0;

@@ -54,12 +54,15 @@ pub enum Fault {
     OpeningLeavesTheTable,
     OpeningWantsAnOrderlyTable,
     // Which block a number of pages gets.
-    NoPagesRefused,
     PagesRoundedDown,
     NoGuardPage,
-    GuardPageForNoSize,
     TwoGuardPages,
     WholeReserveTaken,
+    // What an image gets that names no size.
+    NoPagesRefused,
+    OnePageForNoSize,
+    LevelFourOnEveryHeight,
+    GuardPageForNoSize,
     // The pages of a node.
     LastPageForTheFirst,
     OnePageTooMany,
@@ -132,13 +135,15 @@ impl Fault {
         Fault::OpeningLeavesTheTable,
         Fault::OpeningWantsAnOrderlyTable,
     ];
-    pub const SIZES: [Fault; 6] = [
-        Fault::NoPagesRefused,
+    pub const SIZES: [Fault; 8] = [
         Fault::PagesRoundedDown,
         Fault::NoGuardPage,
-        Fault::GuardPageForNoSize,
         Fault::TwoGuardPages,
         Fault::WholeReserveTaken,
+        Fault::NoPagesRefused,
+        Fault::OnePageForNoSize,
+        Fault::LevelFourOnEveryHeight,
+        Fault::GuardPageForNoSize,
     ];
     pub const NODES: [Fault; 4] = [
         Fault::LastPageForTheFirst,
@@ -239,7 +244,7 @@ impl Wrong<'_> {
     /// Everybody at the places of a layout, at each level left to right as they stood, the newcomer last.
     fn in_order(&self, layout: &[Node]) -> Vec<Node> {
         let mut standing = self.before.to_vec();
-        let newcomer = level_wanted(self.request);
+        let newcomer = level_wanted(self.tree, self.request);
         standing[self.tenant()] = 0;
         let mut after = vec![0; standing.len()];
         for level in self.tree.levels() {
@@ -258,7 +263,7 @@ impl Wrong<'_> {
     fn counts_after(&self) -> Counts {
         let held: Vec<Node> = self.before.iter().copied().filter(|&node| node != 0).collect();
         let mut counts = self.tree.counts(&held);
-        match level_wanted(self.request) {
+        match level_wanted(self.tree, self.request) {
             Some(level) => counts[level as usize] += 1,
             None => counts[self.tree.level(self.before[self.tenant()]) as usize] -= 1,
         }
@@ -272,7 +277,7 @@ impl Wrong<'_> {
     /// The newcomer in the first gap of its size and everybody else where they are.
     fn in_the_gap(&self) -> Option<Vec<Node>> {
         let mut after = self.before.to_vec();
-        after[self.tenant()] = match level_wanted(self.request) {
+        after[self.tenant()] = match level_wanted(self.tree, self.request) {
             Some(level) => leftmost_free(self.tree, self.before, level)?,
             None => 0,
         };
@@ -387,7 +392,9 @@ impl Faulty {
         let by_pages = |pages| Request::GrantPages { tenant, pages };
         match (self.0, pages) {
             (Fault::NoPagesRefused, 0) => by_pages(all),
-            (Fault::GuardPageForNoSize, 0) => by_pages(1),
+            (Fault::OnePageForNoSize, 0) => by_level(0),
+            (Fault::LevelFourOnEveryHeight, 0) => by_level(4),
+            (Fault::GuardPageForNoSize, 0) => by_level(height.min(5)),
             (_, 0) => by_pages(0),
             (Fault::PagesRoundedDown, _) if pages < all => by_level(pages.ilog2()),
             (Fault::NoGuardPage, _) if pages < all => by_level(pages.next_power_of_two().ilog2()),
@@ -404,9 +411,9 @@ impl Faulty {
             return None;
         }
         let holds = table_from(table)[request.tenant() as usize] != 0;
-        match level_wanted(request) {
-            Some(_) if holds => Some(refused(Refusal::HoldsAlready)),
-            None if !holds => Some(refused(Refusal::HoldsNothing)),
+        match (request.is_grant(), holds) {
+            (true, true) => Some(refused(Refusal::HoldsAlready)),
+            (false, false) => Some(refused(Refusal::HoldsNothing)),
             _ => None,
         }
     }
@@ -414,7 +421,7 @@ impl Faulty {
     /// Takes every legal table, and releases from it.
     fn legal_is_enough(&self, height: u32, table: &mut [u8], moves: &mut [u8], request: Request) -> Option<Reply> {
         let reply = ask(&mut Oracle, height, &mut table.to_vec(), &mut moves.to_vec(), request);
-        if reply.answer != Refusal::Table.number() || level_wanted(request).is_some() {
+        if reply.answer != Refusal::Table.number() || request.is_grant() {
             return None;
         }
         let tree = Tree::new(height);
@@ -444,7 +451,7 @@ impl Faulty {
         reply: Reply,
     ) -> Reply {
         let after = table_from(table);
-        let is_grant = level_wanted(wrong.request).is_some();
+        let is_grant = wrong.request.is_grant();
         let mut again = |after: Option<Vec<Node>>| {
             moves.copy_from_slice(lent_moves);
             match after {
@@ -693,13 +700,19 @@ impl ThirdOfItsSize {
     fn grant(&self, height: u32, table: &mut [u8], moves: &mut [u8], request: Request) -> Reply {
         let before = table_from(table);
         let reply = ask(&mut Oracle, height, table, moves, request);
-        let level = level_wanted(request);
-        let same_size = |&&node: &&Node| node != 0 && Some(Tree::new(height).level(node)) == level;
-        if reply.answer == DONE && before.iter().filter(same_size).count() == 2 {
-            let node = reply.node ^ 1;
-            return Reply { node, ..reply };
+        if reply.answer != DONE {
+            return reply;
         }
-        reply
+        let tree = Tree::new(height);
+        let level = level_wanted(tree, request);
+        let same_size = |&&node: &&Node| node != 0 && Some(tree.level(node)) == level;
+        match before.iter().filter(same_size).count() {
+            2 => Reply {
+                node: reply.node ^ 1,
+                ..reply
+            },
+            _ => reply,
+        }
     }
 }
 
