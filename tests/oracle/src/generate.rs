@@ -4,7 +4,7 @@ use std::fmt;
 
 use crate::book::Book;
 use crate::definitions::{Counts, Node, Tree, TALLEST};
-use crate::journal::{Record, LONGEST};
+use crate::journal::{self, Reading, Record, LONGEST};
 use crate::lifting;
 use crate::planner::{Request, FEWEST_ENTRIES, TENANTS};
 use crate::random::Random;
@@ -268,7 +268,8 @@ impl<'a> Author<'a> {
         if self.random.one_in(2) {
             return Request::GrantLevel { tenant, level };
         }
-        // A block of this level is the smallest for half its pages and up to all but the guard page; one page is for no size.
+        // A block of this level is the smallest for half its pages and up to all but the guard page. No number of pages gets a
+        // single page; instead the image names no size, and gets another level.
         let pages = match level {
             0 => 0,
             _ => (1 << (level - 1)) + self.random.below(1 << (level - 1)),
@@ -507,6 +508,22 @@ pub fn journal(random: &mut Random, records: usize) -> Vec<u8> {
     bytes
 }
 
+/// A journal as a box wrote it when an image that names no size got one page: blocks of one page are granted either way.
+pub fn old_journal(random: &mut Random, records: usize) -> Vec<u8> {
+    let today = journal(random, records);
+    let mut bytes = Vec::new();
+    let mut offset = 0;
+    while let Reading::Record { record, next } = journal::read(&today, offset) {
+        let older = match record {
+            Record::GrantLevel { tenant, level: 0 } if random.one_in(2) => Record::GrantPages { tenant, pages: 0 },
+            _ => record,
+        };
+        bytes.extend(older.bytes());
+        offset = next;
+    }
+    bytes
+}
+
 /// Spoils a journal in one of the ways in which files get spoilt.
 pub fn damage_journal(random: &mut Random, journal: &mut Vec<u8>) {
     if journal.is_empty() {
@@ -537,6 +554,19 @@ pub fn noise(random: &mut Random) -> Vec<u8> {
 /// So many bytes of which most are kinds.
 pub fn noise_of(random: &mut Random, length: usize) -> Vec<u8> {
     (0..length).map(|_| random.below(6) as u8).collect()
+}
+
+/// A journal of just this length, nearly all of it grants of 0 pages.
+pub fn unnamed_of(length: usize) -> Vec<u8> {
+    assert!(length >= 14);
+    let mut bytes = Record::Open { height: 2 }.bytes();
+    while !(length - bytes.len()).is_multiple_of(5) {
+        bytes.extend(Record::Release { tenant: 7 }.bytes());
+    }
+    while bytes.len() < length {
+        bytes.extend(Record::GrantPages { tenant: 7, pages: 0 }.bytes());
+    }
+    bytes
 }
 
 /// A journal of just this length, with nothing wrong but perhaps its length.

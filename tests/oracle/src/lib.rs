@@ -7,11 +7,12 @@
 //!   small trees every set there is; [`occupancy`] has the words for tall trees, where nodes are counted beforehand;
 //! - [`lifting`] builds the safe layout of any counts on a [`row`] of labelled pages, by the lifting rule;
 //! - [`planner`] has the calls with their refusals and pairing, [`carrying`] tries all lists of their moves,
-//!   [`page_map`] has the map, [`journal`] and [`listing`] the journal;
+//!   [`page_map`] has the map, [`journal`] and [`listing`] the journal, [`convert`] turns an old one over;
 //! - [`book`] and [`audit`] state what every planner owes its callers without planning anything themselves, and
 //!   [`runtime`] carries out the moves;
 //! - [`subject`] is the door through which a planner under test is reached, and [`compare`] knocks on it, with what
-//!   [`generate`] makes up from the seeds of [`random`], and with [`shrink`] to shorten what fails.
+//!   [`generate`] makes up from the seeds of [`random`], and with [`shrink`] to shorten what fails; [`program`] runs the
+//!   programs beside the library.
 
 #![forbid(unsafe_code)]
 
@@ -28,6 +29,7 @@ pub mod audit;
 pub mod book;
 pub mod carrying;
 pub mod compare;
+pub mod convert;
 pub mod definitions;
 pub mod generate;
 pub mod journal;
@@ -36,6 +38,7 @@ pub mod listing;
 pub mod occupancy;
 pub mod page_map;
 pub mod planner;
+pub mod program;
 pub mod random;
 pub mod refusal;
 pub mod row;

@@ -4,6 +4,7 @@
 //! failing history is shortened before it is shown.
 
 mod calls;
+pub mod conversions;
 mod edges;
 mod journals;
 mod lent;
@@ -13,6 +14,7 @@ mod numbering;
 
 use std::error::Error;
 use std::io::{self, Write};
+use std::num::ParseIntError;
 
 use crate::random::Random;
 use crate::subject::Subject;
@@ -35,11 +37,20 @@ pub struct Amounts {
     pub damaged_tables: usize,
     pub maps: usize,
     pub journals: usize,
+    /// Old journals that are converted.
+    pub conversions: usize,
     /// Pairs of histories that end in the same holdings.
     pub pairs: usize,
 }
 
 impl Amounts {
+    /// What a command's arguments `[SEED [TIMES]]` ask for.
+    pub fn from_arguments(arguments: &[&str]) -> Result<Self, ParseIntError> {
+        let seed = arguments.first().map_or(Ok(1), |seed| seed.parse())?;
+        let times = arguments.get(1).map_or(Ok(1), |times| times.parse())?;
+        Ok(Amounts::full(seed).times(times))
+    }
+
     /// A few seconds' worth.
     pub fn quick(seed: u64) -> Self {
         Amounts {
@@ -50,6 +61,7 @@ impl Amounts {
             damaged_tables: 1_500,
             maps: 300,
             journals: 500,
+            conversions: 200,
             pairs: 60,
         }
     }
@@ -64,6 +76,7 @@ impl Amounts {
             damaged_tables: 20_000,
             maps: 3_000,
             journals: 3_000,
+            conversions: 600,
             pairs: 600,
         }
     }
@@ -76,6 +89,7 @@ impl Amounts {
             &mut self.damaged_tables,
             &mut self.maps,
             &mut self.journals,
+            &mut self.conversions,
             &mut self.pairs,
         ] {
             *amount *= factor;
@@ -116,16 +130,29 @@ fn random_for(amounts: &Amounts, part: usize) -> Random {
 
 /// Runs all parts and reports on each in a line, or with what it found.
 pub fn run(subject: &mut dyn Subject, amounts: &Amounts, report: &mut dyn Write) -> io::Result<Tally> {
+    let results = PARTS
+        .into_iter()
+        .enumerate()
+        .map(|(place, (name, part))| (name, part(subject, amounts, &mut random_for(amounts, place))));
+    tell(results, amounts.seed, report)
+}
+
+/// Reports on each part as soon as its result is there.
+fn tell(
+    results: impl Iterator<Item = (&'static str, Result<usize, String>)>,
+    seed: u64,
+    report: &mut dyn Write,
+) -> io::Result<Tally> {
     let mut tally = Tally::default();
-    for (place, (name, part)) in PARTS.into_iter().enumerate() {
-        match part(subject, amounts, &mut random_for(amounts, place)) {
+    for (name, result) in results {
+        match result {
             Ok(comparisons) => {
                 tally.passed += 1;
-                writeln!(report, "{name}: {comparisons} comparisons, seed {}", amounts.seed)?;
+                writeln!(report, "{name}: {comparisons} comparisons, seed {seed}")?;
             }
             Err(finding) => {
                 tally.failed += 1;
-                writeln!(report, "{name}: different, seed {}\n{finding}", amounts.seed)?;
+                writeln!(report, "{name}: different, seed {seed}\n{finding}")?;
             }
         }
     }
@@ -134,9 +161,7 @@ pub fn run(subject: &mut dyn Subject, amounts: &Amounts, report: &mut dyn Write)
 
 /// The driver as a command: `[SEED [TIMES]]` are its arguments, and its last line is the tally.
 pub fn command(subject: &mut dyn Subject, arguments: &[&str]) -> Result<Tally, Box<dyn Error>> {
-    let seed = arguments.first().map_or(Ok(1), |seed| seed.parse())?;
-    let times = arguments.get(1).map_or(Ok(1), |times| times.parse())?;
-    let tally = run(subject, &Amounts::full(seed).times(times), &mut io::stdout())?;
+    let tally = run(subject, &Amounts::from_arguments(arguments)?, &mut io::stdout())?;
     println!("{} passed, {} failed", tally.passed, tally.failed);
     Ok(tally)
 }

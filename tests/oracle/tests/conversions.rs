@@ -1,0 +1,283 @@
+//! Old journals converted: what they come to, and that every planted mistake in a converter is found.
+
+use std::collections::BTreeSet;
+
+use oracle::compare::conversions::{first_finding, run, with_new_letters, Converter, Left};
+use oracle::compare::{Amounts, Tally};
+use oracle::convert::{convert, Stop};
+use oracle::generate::{damage_journal, noise, old_journal, unnamed_of};
+use oracle::journal::{self, Reading, Record, LONGEST};
+use oracle::listing::{list, list_under};
+use oracle::planner::Unnamed;
+use oracle::random::Random;
+
+/// Old journals, some of them spoilt, and noise.
+fn journals(seed: u64, number: usize) -> impl Iterator<Item = Vec<u8>> {
+    let mut random = Random::new(seed);
+    (0..number).map(move |round| {
+        let records = random.index(80);
+        let mut journal = old_journal(&mut random, records);
+        match round % 4 {
+            0 => damage_journal(&mut random, &mut journal),
+            1 => journal = noise(&mut random),
+            _ => {}
+        }
+        journal
+    })
+}
+
+/// What the last line of a listing says, if it ended early.
+fn end_of(listing: &[u8]) -> Option<Stop> {
+    let text = String::from_utf8_lossy(listing);
+    let (offset, number) = text.lines().last()?.strip_prefix("! ")?.split_once(' ')?;
+    Some(Stop {
+        number: number.parse().expect("a number"),
+        offset: offset.parse().expect("an offset"),
+    })
+}
+
+#[test]
+fn a_journal_is_refused_just_where_its_listing_ends_early() {
+    let mut numbers = BTreeSet::new();
+    let long = [LONGEST, LONGEST + 1].map(unnamed_of);
+    for journal in journals(31, 2_000).chain(long) {
+        let end = end_of(&list(&journal));
+        assert_eq!(convert(&journal).err(), end, "{journal:?}");
+        // The rule for images that name no size has no part in that.
+        assert_eq!(end_of(&list_under(Unnamed::OnePage, &journal)), end, "{journal:?}");
+        numbers.extend(end.map(|stop| stop.number));
+    }
+    assert_eq!(numbers, BTreeSet::from([1, 11, 12, 13, 14, 16]));
+}
+
+#[test]
+fn a_converted_journal_is_answered_as_the_old_one_was() {
+    let mut differently_today = 0;
+    for journal in journals(32, 1_000) {
+        let Ok(converted) = convert(&journal) else {
+            continue;
+        };
+        let before = list_under(Unnamed::OnePage, &journal);
+        assert_eq!(list(&converted), with_new_letters(&before), "{journal:?}");
+        assert_eq!(
+            list_under(Unnamed::OnePage, &converted),
+            list(&converted),
+            "{journal:?}"
+        );
+        differently_today += usize::from(list(&journal) != before);
+    }
+    assert!(differently_today > 250, "{differently_today}");
+}
+
+#[test]
+fn the_letters_alone_change_in_a_listing() {
+    let listing = b"1 O 0 - 0 - 0\n2 P 0 0 0 16 0\n3 P 7 10 0 2 1 0:16>24\n4 G 0 0 8 - 0\n5 P 10 0 10 - 0\n! 9 12\n";
+    let changed = b"1 O 0 - 0 - 0\n2 G 0 0 0 16 0\n3 P 7 10 0 2 1 0:16>24\n4 G 0 0 8 - 0\n5 G 10 0 10 - 0\n! 9 12\n";
+    assert_eq!(with_new_letters(listing), changed);
+}
+
+#[test]
+fn converting_twice_is_converting_once() {
+    for journal in journals(33, 2_000).chain([unnamed_of(LONGEST)]) {
+        if let Ok(converted) = convert(&journal) {
+            assert_eq!(convert(&converted).as_ref(), Ok(&converted), "{journal:?}");
+        }
+    }
+}
+
+/// All that a journal's records are, one after the other, is a function of its own bytes.
+#[test]
+fn records_are_copied_or_become_grants_of_level_0() {
+    for journal in journals(34, 1_000) {
+        let Ok(converted) = convert(&journal) else {
+            continue;
+        };
+        let expected: Vec<Record> = records(&journal)
+            .into_iter()
+            .map(|record| match record {
+                Record::GrantPages { tenant, pages: 0 } => Record::GrantLevel { tenant, level: 0 },
+                _ => record,
+            })
+            .collect();
+        assert_eq!(records(&converted), expected, "{journal:?}");
+    }
+}
+
+/// The records of a journal, as far as they can be read.
+fn records(journal: &[u8]) -> Vec<Record> {
+    let mut records = Vec::new();
+    let mut offset = 0;
+    while let Reading::Record { record, next } = journal::read(journal, offset) {
+        records.push(record);
+        offset = next;
+    }
+    records
+}
+
+/// A converter without a mistake.
+struct Right;
+
+impl Converter for Right {
+    fn convert(&mut self, journal: &[u8]) -> Left {
+        Left::due(journal)
+    }
+
+    fn list(&mut self, journal: &[u8]) -> Vec<u8> {
+        list(journal)
+    }
+}
+
+#[test]
+fn nothing_is_found_where_nothing_is_wrong() {
+    let mut report = Vec::new();
+    let tally = run(&mut Right, &Amounts::quick(35), &mut report).expect("a report in memory");
+    assert_eq!(
+        tally,
+        Tally { passed: 5, failed: 0 },
+        "{}",
+        String::from_utf8_lossy(&report)
+    );
+}
+
+/// The one mistake of a converter.
+#[derive(Clone, Copy, Debug, PartialEq, Eq)]
+enum Fault {
+    // In what is written.
+    NothingConverted,
+    OnePageToo,
+    LowByteOfThePagesAlone,
+    LevelFour,
+    FiveBytesKept,
+    HighByteOfTheTenantLost,
+    FirstGrantAlone,
+    RefusedGrantsLeftOut,
+    // In what is refused.
+    FrontWrittenBeforeTheRefusal,
+    FrontKeptWithoutARefusal,
+    RefusedLinesRefuseAll,
+    AnyHeightTaken,
+    EmptyTaken,
+    LongJournalTaken,
+    NothingSaid,
+    SaidOnStandardOutput,
+    OffsetInTheConverted,
+    NumberAndOffsetExchanged,
+}
+
+impl Fault {
+    const ALL: [Fault; 18] = [
+        Fault::NothingConverted,
+        Fault::OnePageToo,
+        Fault::LowByteOfThePagesAlone,
+        Fault::LevelFour,
+        Fault::FiveBytesKept,
+        Fault::HighByteOfTheTenantLost,
+        Fault::FirstGrantAlone,
+        Fault::RefusedGrantsLeftOut,
+        Fault::FrontWrittenBeforeTheRefusal,
+        Fault::FrontKeptWithoutARefusal,
+        Fault::RefusedLinesRefuseAll,
+        Fault::AnyHeightTaken,
+        Fault::EmptyTaken,
+        Fault::LongJournalTaken,
+        Fault::NothingSaid,
+        Fault::SaidOnStandardOutput,
+        Fault::OffsetInTheConverted,
+        Fault::NumberAndOffsetExchanged,
+    ];
+
+    /// What becomes of a journal that is to be converted.
+    fn out(self, journal: &[u8]) -> Vec<u8> {
+        let listing = list_under(Unnamed::OnePage, journal);
+        let text = String::from_utf8_lossy(&listing);
+        let answers = text.lines().map(|line| line.split(' ').nth(4) == Some("0"));
+        let mut before = 0;
+        let become_bytes = |(record, is_done): (Record, bool)| {
+            let Record::GrantPages { tenant, pages } = record else {
+                return record.bytes();
+            };
+            let is_first = before == 0;
+            before += usize::from(pages == 0);
+            let level_0 = Record::GrantLevel { tenant, level: 0 };
+            match (self, pages) {
+                (Fault::NothingConverted, _) => record.bytes(),
+                (Fault::OnePageToo, 1) => level_0.bytes(),
+                (Fault::LowByteOfThePagesAlone, _) if pages % 256 == 0 => level_0.bytes(),
+                (Fault::LevelFour, 0) => Record::GrantLevel { tenant, level: 4 }.bytes(),
+                (Fault::FiveBytesKept, 0) => [level_0.bytes(), vec![0]].concat(),
+                (Fault::HighByteOfTheTenantLost, 0) => {
+                    let tenant = tenant % 256;
+                    Record::GrantLevel { tenant, level: 0 }.bytes()
+                }
+                (Fault::FirstGrantAlone, 0) if !is_first => record.bytes(),
+                (Fault::RefusedGrantsLeftOut, 0) if !is_done => Vec::new(),
+                (_, 0) => level_0.bytes(),
+                _ => record.bytes(),
+            }
+        };
+        records(journal)
+            .into_iter()
+            .zip(answers)
+            .flat_map(become_bytes)
+            .collect()
+    }
+
+    fn left(self, journal: &[u8]) -> Left {
+        let due = Left::due(journal);
+        match convert(journal) {
+            Ok(_) if self == Fault::RefusedLinesRefuseAll && has_refused_lines(journal) => {
+                Left::refused(Stop { number: 9, offset: 0 })
+            }
+            Ok(_) => Left::converted(self.out(journal)),
+            Err(stop) => {
+                let front = || convert(&journal[..stop.offset]).unwrap_or_default();
+                match (self, stop.number) {
+                    (Fault::FrontWrittenBeforeTheRefusal, _) => Left { out: front(), ..due },
+                    (Fault::FrontKeptWithoutARefusal, 13) => Left::converted(front()),
+                    (Fault::AnyHeightTaken, 1) => {
+                        let lower = [&[1, 12], &journal[2..]].concat();
+                        let taken = convert(&lower).map(|out| [&journal[..2], &out[2..]].concat());
+                        taken.map_or_else(Left::refused, Left::converted)
+                    }
+                    (Fault::EmptyTaken, 11) if journal.is_empty() => Left::converted(Vec::new()),
+                    (Fault::LongJournalTaken, 16) => Left::due(&journal[..LONGEST]),
+                    (Fault::NothingSaid, _) => Left::converted(Vec::new()),
+                    (Fault::SaidOnStandardOutput, _) => Left::converted(due.error),
+                    (Fault::OffsetInTheConverted, _) => Left::refused(Stop {
+                        offset: front().len(),
+                        ..stop
+                    }),
+                    (Fault::NumberAndOffsetExchanged, _) => Left::refused(Stop {
+                        number: stop.offset as u32,
+                        offset: stop.number as usize,
+                    }),
+                    _ => due,
+                }
+            }
+        }
+    }
+}
+
+fn has_refused_lines(journal: &[u8]) -> bool {
+    let listing = String::from_utf8(list_under(Unnamed::OnePage, journal)).expect("a listing is plain text");
+    listing.lines().any(|line| line.split(' ').nth(4) != Some("0"))
+}
+
+impl Converter for Fault {
+    fn convert(&mut self, journal: &[u8]) -> Left {
+        self.left(journal)
+    }
+
+    fn list(&mut self, journal: &[u8]) -> Vec<u8> {
+        list(journal)
+    }
+}
+
+#[test]
+fn wrong_converters_are_found() {
+    for mut fault in Fault::ALL {
+        let (part, finding) =
+            first_finding(&mut fault, &Amounts::quick(36)).unwrap_or_else(|| panic!("{fault:?} was not found"));
+        println!("{fault:?}: {part}\n{finding}\n");
+    }
+}
