@@ -75,6 +75,21 @@ build_program() {
   rt check "$1"
 }
 
+# the second planner's command, as target/oracle/release/oracle
+build_second_planner() {
+  CARGO_TARGET_DIR=target/oracle cargo build --release --offline -q --manifest-path tests/oracle/Cargo.toml
+}
+
+# the library that makes calls fail, as target/fails.so
+build_failing_calls() {
+  gcc -Wall -Wextra -Werror -shared -fPIC tests/fails.c -o target/fails.so
+}
+
+# run_python SCRIPT ARGUMENT..: a script that imports tests/programs.py; nothing is compiled beside the source
+run_python() {
+  PYTHONPATH=tests python3 -B "$@"
+}
+
 # one NAME COMMAND..: one check, which passes if the command does; its output is shown if not
 one() {
   local name=$1
