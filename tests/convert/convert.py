@@ -1,0 +1,319 @@
+"""Runs the program `convert_pages` and compares what it says and all files that it leaves. Usage: convert.py CONVERT_PAGES ORACLE FAILS EXAMPLES
+
+The second planner, ORACLE, gives the conversions, the library FAILS is tests/fails.c, and the folder EXAMPLES has journals. Each run has a folder of
+its own, in which nothing else may be made, changed or removed. A check that fails prints its name and the first difference. The last line is
+'N passed, M failed'.
+"""
+
+import os
+import pathlib
+import random
+import subprocess
+import sys
+import tempfile
+
+from programs import (
+    Program,
+    check,
+    check_interrupted_writing,
+    check_leaving_reader,
+    check_no_reading,
+    check_no_writing,
+    check_reading,
+    conclude,
+    ends_with,
+    feed,
+    grant,
+    grant_pages,
+    limited,
+    release,
+    sockets,
+)
+
+CONVERT_PAGES, ORACLE, FAILS, EXAMPLES = (os.path.abspath(path) for path in sys.argv[1:])
+PROGRAM = Program(CONVERT_PAGES)
+USAGE = b"""usage: convert_pages [OLD [NEW]]
+Converts the journal in OLD into NEW: each grant of 0 pages becomes a grant of level 0.
+Without OLD, or if it is -, it reads standard input; without NEW, or if it is -, it writes to standard output.
+"""
+FOLDER = object()  # what stands for a folder among files; a text stands for a link to that name
+
+
+# Journals
+
+OLD = bytes([1, 5]) + grant_pages(7, 0) + grant(1, 1) + grant_pages(2, 1) + release(7) + grant_pages(4095, 0)
+NEW = bytes([1, 5]) + grant(7, 0) + grant(1, 1) + grant_pages(2, 1) + release(7) + grant(4095, 0)
+
+# Journals that are refused, each with number and offset. Lines that only tell of a refused grant or release are no reason.
+REFUSED = (
+    ("empty", b"", 11, 0),
+    ("without an open", OLD[2:], 11, 0),
+    ("of height 13", b"\x01\x0d" + OLD[2:], 1, 0),
+    ("of height 255", b"\x01\xff" + OLD[2:], 1, 0),
+    ("with an unknown kind", OLD + b"\x05", 12, len(OLD)),
+    ("cut off", OLD[:-1], 13, len(OLD) - 5),
+    ("with a second open", OLD + b"\x01\x05", 14, len(OLD)),
+    ("too long by a byte", b"\x01\x00" + release(7) * 21845, 16, 0),
+    ("far too long", b"\x01\x00" + grant_pages(7, 0) * 40000, 16, 0),
+)
+
+
+def drawn(length):
+    """Grants and releases at height 12 up to a length, drawn at random, with 0 pages in many of the grants."""
+    draw = random.Random(length)
+    journal = bytes([1, 12])
+    while len(journal) + 5 <= length:
+        tenant = draw.choice((draw.randrange(1000, 1200), draw.randrange(65536)))
+        record = draw.choice((release(tenant), grant(tenant, draw.randrange(14)), grant_pages(tenant, 0), grant_pages(tenant, draw.randrange(300))))
+        journal += record
+    return journal
+
+
+def by_oracle(journal):
+    """The conversion of a journal, and why there is none, by the second planner."""
+    done = subprocess.run([ORACLE, "convert"], input=journal, stdout=subprocess.PIPE, stderr=subprocess.PIPE)
+    return done.stdout, done.stderr
+
+
+# Files
+
+
+def fill(folder, files):
+    for name, what in files.items():
+        path = folder / name
+        if what is FOLDER:
+            path.mkdir()
+        elif isinstance(what, str):
+            path.symlink_to(what)
+        else:
+            path.write_bytes(what)
+
+
+def contents(folder):
+    """Everything below a folder, as it was given to `fill`."""
+
+    def what_is(path):
+        if path.is_symlink():
+            return os.readlink(path)
+        return FOLDER if path.is_dir() else path.read_bytes()
+
+    return {str(path.relative_to(folder)): what_is(path) for path in sorted(folder.rglob("*"))}
+
+
+def told(files):
+    shorten = lambda what: "folder" if what is FOLDER else what if len(what) < 80 else f"{len(what)} bytes"
+    return {name: shorten(what) for name, what in files.items()}
+
+
+def check_files(name, arguments, before, after, error=b"", out=b"", run=ends_with, **how):
+    """Runs the program in a folder with some files, and compares all that it says and all that is there after it."""
+    with check(name), tempfile.TemporaryDirectory() as path:
+        folder = pathlib.Path(path)
+        fill(folder, before)
+        run(PROGRAM.start(*arguments, cwd=folder, **how), out, error)
+        found = contents(folder)
+        assert found == after, f"there is {told(found)}, and there should be {told(after)}"
+
+
+def check_unchanged(name, arguments, files, error, **how):
+    """The same for a run after which all is as it was."""
+    check_files(name, arguments, files, files, error, **how)
+
+
+def cannot_write(thing, reason):
+    return PROGRAM.cannot("write", thing, reason)
+
+
+# Checks
+
+
+def check_converted():
+    """A whole new file, whatever was there under its name."""
+    check_files("a new file", ("old", "new"), {"old": OLD}, {"old": OLD, "new": NEW})
+    check_files("a file that was there", ("old", "new"), {"old": OLD, "new": OLD * 3}, {"old": OLD, "new": NEW})
+    check_files("a file onto itself", ("journal", "journal"), {"journal": OLD}, {"journal": NEW})
+    check_files("a file onto itself by another name", ("journal", "./journal"), {"journal": OLD}, {"journal": NEW})
+    check_files("a link in the place of the new file", ("old", "new"), {"old": OLD, "new": "old"}, {"old": OLD, "new": NEW})
+    check_files("a link to the old file", ("link", "link"), {"old": OLD, "link": "old"}, {"old": OLD, "link": NEW})
+    files = {"old": OLD, "sub": FOLDER}
+    check_files("a file in a folder", ("old", "sub/new"), files, {**files, "sub/new": NEW})
+    check_files("files whose names are -", ("./-", "./-"), {"-": OLD}, {"-": NEW})
+    check_files("a name that may just be as long", ("old", "n" * 250), {"old": OLD}, {"old": OLD, "n" * 250: NEW})
+    for mask, mode in (0, 0o666), (0o022, 0o644), (0o027, 0o640), (0o077, 0o600):
+        with check(f"the mode of a new file under mask {mask:03o}"), tempfile.TemporaryDirectory() as path:
+            folder = pathlib.Path(path)
+            fill(folder, {"old": OLD})
+            ends_with(PROGRAM.start("old", "new", cwd=folder, umask=mask), b"", b"")
+            found = (folder / "new").stat().st_mode & 0o7777
+            assert found == mode, f"it is {found:03o} and should be {mode:03o}"
+
+
+def check_standard_streams():
+    with tempfile.TemporaryFile() as file:
+        file.write(OLD)
+
+        def rewound():
+            file.seek(0)
+            return file
+
+        for arguments in (), ("-",), ("-", "-"):
+            check_files(f"standard input to standard output, {len(arguments)} arguments", arguments, {}, {}, out=NEW, stdin=rewound())
+        check_files("standard input to a file", ("-", "new"), {}, {"new": NEW}, stdin=rewound())
+    check_files("a file to standard output", ("old",), {"old": OLD}, {"old": OLD}, out=NEW)
+    check_files("a file to standard output, by name", ("old", "-"), {"old": OLD}, {"old": OLD}, out=NEW)
+    both = {"old": OLD, "new": NEW}
+    check_files("standard input closed beside files", ("old", "new"), {"old": OLD}, both, preexec_fn=lambda: os.close(0))
+    check_files("standard output closed beside files", ("old", "new"), {"old": OLD}, both, preexec_fn=lambda: os.close(1))
+    with open("/dev/full", "wb") as full:
+        check_files("standard output full beside files", ("old", "new"), {"old": OLD}, both, stdout=full)
+
+
+def check_long_journals():
+    longest = drawn(65536)
+    longest += release(7) * ((65536 - len(longest)) // 3)
+    for name, journal in (
+        ("a journal drawn at random", drawn(20000)),
+        ("a long journal drawn at random", longest),
+        ("as many bytes as there may be", bytes([1, 0]) + grant_pages(0, 0) + release(7) * 21843),
+        ("a conversion as long as its journal", bytes([1, 0]) + grant_pages(0, 1) + release(7) * 21843),
+    ):
+        converted, _ = by_oracle(journal)
+        with check(f"{name}, by the second planner"):
+            assert len(converted) > 10000, len(converted)
+        check_files(f"{name}, in files", ("old", "new"), {"old": journal}, {"old": journal, "new": converted})
+        check_files(f"{name}, to standard output", ("old",), {"old": journal}, {"old": journal}, out=converted)
+        check_files(f"{name}, once more", ("new", "again"), {"new": converted}, {"new": converted, "again": converted})
+
+
+def check_examples():
+    for path in sorted(pathlib.Path(EXAMPLES).glob("*.journal")):
+        journal = path.read_bytes()
+        converted, why = by_oracle(journal)
+        if why:
+            check_unchanged(path.name, ("old", "new"), {"old": journal}, b"convert_pages: cannot convert old: " + why)
+        else:
+            check_files(path.name, ("old", "new"), {"old": journal}, {"old": journal, "new": converted})
+
+
+def check_refused():
+    """Not one byte is written, and no file is made or changed."""
+    for name, journal, number, offset in REFUSED:
+        said = f": refusal {number} at offset {offset}\n".encode()
+        error = b"convert_pages: cannot convert old" + said
+        with check(f"a journal {name}, by the second planner"):
+            assert by_oracle(journal) == (b"", said[2:]), by_oracle(journal)
+        check_unchanged(f"a journal {name}", ("old",), {"old": journal}, error)
+        check_unchanged(f"a journal {name}, with a new file", ("old", "new"), {"old": journal}, error)
+        check_unchanged(f"a journal {name}, over a file", ("old", "new"), {"old": journal, "new": NEW}, error)
+        check_unchanged(f"a journal {name}, over itself", ("old", "old"), {"old": journal}, error)
+        with tempfile.TemporaryFile() as file:
+            file.write(journal)
+            file.seek(0)
+            error = b"convert_pages: cannot convert standard input" + said
+            check_unchanged(f"a journal {name}, on standard input", ("-", "new"), {"new": NEW}, error, stdin=file)
+    error = b"convert_pages: cannot convert old: refusal 11 at offset 0\n"
+    check_unchanged("a refused journal beside a part", ("old", "new"), {"old": b"", "new.part": OLD}, error)
+    check_unchanged("a refused journal for a missing folder", ("old", "missing/new"), {"old": b""}, error)
+
+
+def check_parts():
+    """A file that somebody else has made under the name of the part is left alone."""
+    error = cannot_write("new.part", "File exists")
+    for name, part in ("file", b"somebody else's"), ("folder", FOLDER), ("link to nothing", "nowhere"), ("link to the old file", "old"):
+        check_unchanged(f"a {name} as part", ("old", "new"), {"old": OLD, "new.part": part}, error)
+        check_unchanged(f"a {name} as part, with a file that was there", ("old", "new"), {"old": OLD, "new": b"", "new.part": part}, error)
+    check_unchanged("a part of itself", ("journal", "journal"), {"journal": OLD, "journal.part": OLD}, cannot_write("journal.part", "File exists"))
+
+
+def check_no_file():
+    """New files that cannot be made, or not under their name: all is as it was, and no part stays."""
+    old = {"old": OLD}
+    for name, new, files, thing, reason in (
+        ("a folder", "new", {"new": FOLDER}, "new", "Is a directory"),
+        ("a folder with a file", "new", {"new": FOLDER, "new/file": b"x"}, "new", "Is a directory"),
+        ("a folder, by its name with a slash", "new/", {"new": FOLDER}, "new/", "Not a directory"),
+        ("a name with no bytes", "", {}, "", "No such file or directory"),
+        ("a file in a missing folder", "missing/new", {}, "missing/new.part", "No such file or directory"),
+        ("a file in what is no folder", "old/new", {}, "old/new.part", "Not a directory"),
+        ("a name that is too long", "n" * 251, {}, "n" * 251 + ".part", "File name too long"),
+    ):
+        check_unchanged(f"{name} as new file", ("old", new), {**old, **files}, cannot_write(thing, reason))
+
+
+def check_no_old_file():
+    """Old files that cannot be read, or not to their end: no new file is made or changed."""
+    for files in {}, {"new": NEW}:
+        beside = f"{len(files)} files beside it"
+        error = PROGRAM.cannot("read", "old", "No such file or directory")
+        check_unchanged(f"a missing file, {beside}", ("old", "new"), files, error)
+        error = PROGRAM.cannot("read", "old", "Is a directory")
+        check_unchanged(f"a folder as old file, {beside}", ("old", "new"), {**files, "old": FOLDER}, error)
+        ours, its = sockets()
+        its.sendall(b"not read, which makes of our end a reset")
+
+        def reset(running, out, error, ours=ours, its=its):
+            feed(running, ours, its, OLD)
+            ours.close()
+            ends_with(running, out, error)
+
+        error = PROGRAM.cannot("read", "standard input", "Connection reset by peer")
+        check_unchanged(f"a read that fails half way, {beside}", ("-", "new"), files, error, run=reset, stdin=its)
+
+
+def check_failing_calls():
+    """Calls that fail after the part was made: it is removed again, and the new file is as it was."""
+    journal = drawn(20000)
+    converted, _ = by_oracle(journal)
+    for files in {"old": journal}, {"old": journal, "new": NEW}, {"old": journal, "new": journal}:
+        beside = f"{len(files.get('new', b''))} bytes there before"
+        for size in 0, 1, 4096, len(converted) - 1:
+            error = cannot_write("new.part", "File too large")
+            check_unchanged(f"files that end at {size} bytes, {beside}", ("old", "new"), files, error, **limited(size))
+        whole = {"old": journal, "new": converted}
+        check_files(f"files that end where the conversion does, {beside}", ("old", "new"), files, whole, **limited(len(converted)))
+        for call, thing, reason in (
+            ("fsync", "new.part", "Input/output error"),
+            ("close", "new.part", "Disk quota exceeded"),
+            ("rename", "new", "Read-only file system"),
+        ):
+            env = {"LD_PRELOAD": FAILS, "FAILS": call}
+            check_unchanged(f"a failing {call}, {beside}", ("old", "new"), files, cannot_write(thing, reason), env=env)
+        check_files(f"no failing call, {beside}", ("old", "new"), files, whole, env={"LD_PRELOAD": FAILS})
+    error = cannot_write("old", "Read-only file system")
+    check_unchanged("a failing rename onto itself", ("old", "old"), {"old": OLD}, error, env={"LD_PRELOAD": FAILS, "FAILS": "rename"})
+
+
+def check_arguments():
+    files = {"a": OLD, "b": b"", "-x": OLD}
+    for arguments in ("--help",), ("--help", "a"), ("--help", "a", "b", "c"), ("--help", "-x"):
+        check_files(" ".join(arguments), arguments, files, files, out=USAGE)
+    for arguments in ("a", "b", "c"), ("-x",), ("-x", "b"), ("a", "-x"), ("a", "--help"), ("--",), ("-h",), ("--help ",), ("a", "b", "c", "d"):
+        check_unchanged(" ".join(arguments), arguments, files, USAGE)
+
+
+def check_streams():
+    """Reading and writing that go half way, as for the other programs."""
+    journal = drawn(65536)
+    converted, _ = by_oracle(journal)
+    with tempfile.TemporaryDirectory() as path:
+        source = pathlib.Path(path, "old")
+        source.write_bytes(journal)
+        check_no_reading(PROGRAM, source.parent)
+        check_reading(PROGRAM, journal, converted)
+        check_no_writing(PROGRAM, source, converted, FAILS, (0, 1, 1000, len(converted) - 1))
+        check_leaving_reader(PROGRAM, source, converted, 10000)
+        check_interrupted_writing(PROGRAM, source, converted, 10000)
+
+
+check_converted()
+check_standard_streams()
+check_long_journals()
+check_examples()
+check_refused()
+check_parts()
+check_no_file()
+check_no_old_file()
+check_failing_calls()
+check_arguments()
+check_streams()
+conclude()
