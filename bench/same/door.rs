@@ -45,7 +45,7 @@ pub fn same_grant_pages(height: u16, table: &mut [u8], moves: &mut [u8], tenant:
         if pages >= 1 << height {
             return Err(6);
         }
-        calls::grant(height, nodes, tenant, level_for(pages))
+        calls::grant(height, nodes, tenant, level_for(height, pages))
     }))
 }
 
@@ -107,9 +107,12 @@ fn call(
     Ok(done)
 }
 
-/// The smallest level whose block has so many pages and a guard page, that is more than so many; level 0 for no size.
-fn level_for(pages: u16) -> u16 {
-    pages.checked_ilog2().map_or(0, |highest| highest as u16 + 1)
+/// The smallest level whose block has so many pages and a guard page, that is more than so many; sixteen pages for no size, or
+/// the whole of a reserve that has fewer.
+fn level_for(height: u16, pages: u16) -> u16 {
+    pages
+        .checked_ilog2()
+        .map_or(height.min(4), |highest| highest as u16 + 1)
 }
 
 /// Refusals 1 and 2.

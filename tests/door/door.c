@@ -324,9 +324,9 @@ static void edges(void) {
     EXPECT(got.answer == RESERVE_DONE && got.node == 1 && got.moves == 0);
     EXPECT(all_are(table, 0));
     got = reserve_grant_pages(12, table.bytes, table.length, moves.bytes, moves.length, 0, 0);
-    EXPECT(got.answer == RESERVE_DONE && got.node == 4096 && node_of(table, 0) == 4096);
+    EXPECT(got.answer == RESERVE_DONE && got.node == 256 && node_of(table, 0) == 256);
     got = reserve_grant_level(12, table.bytes, table.length, moves.bytes, moves.length, 1, 11);
-    EXPECT(got.answer == RESERVE_DONE && got.node == 2 && got.moves == 1 && is_direct(moves, 0, 0, 4096, 6144));
+    EXPECT(got.answer == RESERVE_DONE && got.node == 2 && got.moves == 1 && is_direct(moves, 0, 0, 256, 384));
     EXPECT(reserve_open(0, table.bytes, table.length) == RESERVE_DONE);
     got = reserve_grant_level(0, table.bytes, table.length, moves.bytes, moves.length, 2, 0);
     EXPECT(got.answer == RESERVE_DONE && got.node == 1);
@@ -336,11 +336,12 @@ static void edges(void) {
     give_back(moves);
 }
 
-/* the first node of the smallest level whose block has so many pages and the guard page; one page where no size is named */
+/* the first node of the smallest level whose block has so many pages and the guard page, or sixteen pages where no size is
+ * named; the root if the reserve has fewer */
 static unsigned first_node(unsigned height, unsigned pages) {
-    unsigned needed = pages == 0 ? 1 : pages + 1;
+    unsigned needed = pages == 0 ? 16 : pages + 1;
     unsigned level = 0;
-    while (1u << level < needed) {
+    while (level < height && 1u << level < needed) {
         level++;
     }
     return 1u << (height - level);
@@ -363,6 +364,30 @@ static void sizes(void) {
         }
         EXPECT(right);
         EXPECT(all_are(box.table, 0));
+        close_box(box);
+    }
+}
+
+/* images that name no size, at every height: each gets sixteen pages, or the first one the whole of a smaller reserve, as long
+ * as there is room, and never 6; one page less than that is no room */
+static void no_size(void) {
+    unsigned height, t;
+    for (height = 0; height <= RESERVE_MAX_HEIGHT; height++) {
+        struct box box = open_box((uint16_t)height);
+        unsigned pages = height < 4 ? 1u << height : 16, images = (1u << height) / pages;
+        int right = 1;
+        for (t = 0; t < images; t++) {
+            unsigned node = images + t;
+            struct reserve_pages got = reserve_node_pages((uint16_t)height, (uint16_t)node);
+            right = right && granted(box, grant_pages(box, (uint16_t)t, 0), t, node, 0);
+            right = right && got.answer == RESERVE_DONE && got.first == t * pages && got.count == pages;
+        }
+        EXPECT(right);
+        EXPECT(refused(grant_pages(box, (uint16_t)images, 0), RESERVE_REFUSED_NO_ROOM));
+        EXPECT(refused(grant_pages(box, 0, 0), RESERVE_REFUSED_HOLDS));
+        EXPECT(released(box, release(box, (uint16_t)(images - 1)), images - 1, 2 * images - 1, 0));
+        EXPECT(grant_level(box, 4095, 0).answer == RESERVE_DONE);
+        EXPECT(refused(grant_pages(box, (uint16_t)images, 0), RESERVE_REFUSED_NO_ROOM));
         close_box(box);
     }
 }
@@ -422,7 +447,7 @@ static void everybody(void) {
     unsigned t;
     int right = 1;
     for (t = 0; t < RESERVE_TENANTS; t++) {
-        right = right && granted(box, grant_pages(box, (uint16_t)t, 0), t, 4096 + t, 0);
+        right = right && granted(box, grant_level(box, (uint16_t)t, 0), t, 4096 + t, 0);
     }
     EXPECT(right);
     EXPECT(refused(grant_level(box, 0, 0), RESERVE_REFUSED_HOLDS));
@@ -636,6 +661,7 @@ int main(void) {
     arguments();
     edges();
     sizes();
+    no_size();
     bytes_of_moves();
     byte_order();
     not_in_order();
