@@ -1,5 +1,6 @@
 /* Mistakes to plant between the fuzzer and the planner, one at a time (-DMISTAKE=1 and so on): the linker hands each call to
- * __wrap_..., which asks the planner as __real_... and spoils what comes back. Each shows in one rare situation only. */
+ * __wrap_..., which asks the planner as __real_... and spoils what it asks or what comes back. Each shows in one rare situation
+ * only. */
 #include "reserve.h"
 
 struct reserve_outcome __real_reserve_grant_level(uint16_t height, uint8_t *table, size_t table_length, uint8_t *moves,
@@ -45,10 +46,12 @@ struct reserve_outcome __wrap_reserve_grant_level(uint16_t height, uint8_t *tabl
     return got;
 }
 
-/* 5: a spoilt table is refused as "no room" where one page is asked of the tallest reserve. */
+/* 5: a spoilt table is refused as "no room" where one page is asked of the tallest reserve.
+ * 9: an image that names no size gets a guard page behind its sixteen pages on a reserve of height 5. */
 struct reserve_outcome __wrap_reserve_grant_pages(uint16_t height, uint8_t *table, size_t table_length, uint8_t *moves,
                                                   size_t moves_length, uint16_t tenant, uint16_t pages) {
-    struct reserve_outcome got = __real_reserve_grant_pages(height, table, table_length, moves, moves_length, tenant, pages);
+    uint16_t asked = MISTAKE == 9 && height == 5 && pages == 0 ? 16 : pages;
+    struct reserve_outcome got = __real_reserve_grant_pages(height, table, table_length, moves, moves_length, tenant, asked);
     if (MISTAKE == 5 && got.answer == RESERVE_REFUSED_NOT_IN_ORDER && height == RESERVE_MAX_HEIGHT && pages == 1)
         got.answer = RESERVE_REFUSED_NO_ROOM;
     return got;
