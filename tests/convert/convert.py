@@ -186,6 +186,10 @@ def check_long_journals():
 
 
 def check_examples():
+    with check("the example in the manual"):
+        old, new = (pathlib.Path(EXAMPLES, name).read_bytes() for name in ("old.journal", "old-converted.journal"))
+        ends_with(PROGRAM.start(os.path.join(EXAMPLES, "old.journal")), new, b"")
+        assert grant_pages(7, 0) in old and grant(7, 0) in new
     for path in sorted(pathlib.Path(EXAMPLES).glob("*.journal")):
         journal = path.read_bytes()
         converted, why = by_oracle(journal)

@@ -5,6 +5,7 @@
 - Every must-fail edit is named in docs/PROOFS.md, and every edit named there exists.
 - Every theorem or definition that stands before "in FILE" in docs/PROOFS.md is declared in that file.
 - Every relative link in a document leads to a file.
+- Every listing that stands in a document is one that the program writes in a test: that of an example, or of its own sample.
 
 Prints what differs; the last line is 'N passed, M failed'.
 """
@@ -79,10 +80,21 @@ def dead_links():
     return wrong
 
 
+def other_listings():
+    tested = {text_of(path) for path in [*glob.glob("examples/*.listing"), "crates/listing/stdout"]}
+    wrong = []
+    for path in glob.glob("*.md") + glob.glob("docs/*.md"):
+        for block in re.findall(r"(?:^    .*\n)+", text_of(path), flags=re.M):
+            listing = re.sub(r"^    ", "", block, flags=re.M)
+            if listing.startswith("1 O ") and listing not in tested:
+                wrong.append(f"{path}: no test has the listing {listing!r}")
+    return wrong
+
+
 def main():
     proofs = text_of("docs/PROOFS.md")
     passed = failed = 0
-    for differing in (same_requires(proofs), same_edits(proofs), declared_names(proofs), dead_links()):
+    for differing in (same_requires(proofs), same_edits(proofs), declared_names(proofs), dead_links(), other_listings()):
         passed += not differing
         failed += bool(differing)
         for line in differing:
