@@ -2,6 +2,7 @@
 use mathlib.Core.Path.{_≡_}
 use mathlib.Core.List.{List, [], _∷_, _++_, map}
 use Prim.Native.Nat.{ℕ}
+use lib.ListN.{length}
 use Rattle.journal.specs.declared.Record.{Record}
 use Rattle.journal.specs.declared.Read.{Read}
 use Rattle.journal.specs.Journal.{Reading}
@@ -9,7 +10,8 @@ use Rattle.lines.specs.Ascii.{byte}
 use Rattle.lines.specs.Decimal.{decimal}
 use Rattle.lines.specs.Line.{stopLine}
 use Rattle.replay.specs.Listing.{listing}
-use Rattle.conversion.specs.Conversion.{converted, contents, convertedJournal}
+use Rattle.conversion.specs.declared.Conversion.{Conversion}
+use Rattle.conversion.specs.Conversion.{converted, convertedJournal, judged}
 use Rattle.histories.specs.Listing.{Opens, reported, openLine, linesAfter}
 use Rattle.old_journals.specs.Former.{formerReports, formerListing}
 
@@ -20,15 +22,15 @@ abbrev pub Unmarked : List ℕ → Type 0
 Unmarked [] = Unit {0}
 Unmarked (b ∷ bs) = ¬ (b ≡ byte "!") × Unmarked bs
 
--- how the listing of a journal ends: without a `!`, or with the one line of a refusal that begins with it
-pub data ListingEnds (journal : List ℕ) : Read → Type 0 where
-  without-mark : Unmarked (listing journal) → ListingEnds journal Read.End
+-- what becomes of a journal, by how its listing ends: without a `!`, or with the one line of a refusal that begins with it
+pub data AsListed (journal : List ℕ) : Conversion → Type 0 where
+  without-mark : Unmarked (listing journal) → AsListed journal (Conversion.Done (length (convertedJournal journal)))
   with-mark : {number offset : ℕ} (lines : List ℕ) → Unmarked lines → listing journal ≡ lines ++ stopLine offset number
-      → ListingEnds journal (Read.Refused number offset)
+      → AsListed journal (Conversion.Refused number offset)
 
 -- a journal is refused exactly if its listing ends with `!`, and with the number and the offset in that line
 abbrev pub RefusedAsListed : Type 0
-RefusedAsListed = (journal : List ℕ) → ListingEnds journal (contents journal .last)
+RefusedAsListed = (journal : List ℕ) → AsListed journal (judged journal)
 
 -- ---- what the conversion is answered
 
