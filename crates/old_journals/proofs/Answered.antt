@@ -7,22 +7,23 @@ use native.Mathlib.Omega.{arith}
 use borrow.Author.Tests.{ltb-false, le-ltb, lt-leb}
 use lib.Dec.{ltb}
 use lib.Pow.{pow-pos}
-use lib.ListN.{replicate}
+use lib.ListN.{length, replicate}
 use Rattle.table.specs.declared.Move.{Move}
 use Rattle.journal.specs.declared.Record.{Record}
 use Rattle.journal.specs.declared.Read.{Read}
-use Rattle.journal.specs.Format.{who}
 use Rattle.journal.specs.Journal.{Reading}
+use Rattle.journal.proofs.Theorems.{next-offset}
 use Rattle.calls.specs.Call.{Call, grant-level, grant-pages, release, levelFor}
 use Rattle.calls.specs.Step.{Outcome, step, open-reserve}
 use Rattle.lines.specs.Ascii.{byte, bytes}
 use Rattle.lines.specs.Decimal.{decimal}
-use Rattle.lines.specs.Line.{spaced, letter, size, nodeField, moveFields, lineOf}
+use Rattle.lines.specs.Line.{spaced, nodeIfDone, moveFields, lineOf}
 use Rattle.replay.specs.Listing.{listing}
 use Rattle.conversion.specs.Conversion.{converted, Contents, contents, convertedJournal}
-use Rattle.conversion.proofs.Promises.{conversion-promise}
+use Rattle.conversion.specs.Promises.{Becomes}
+use Rattle.conversion.proofs.Promises.{becomes, conversion-promise}
 use Rattle.histories.specs.Listing.{callsOf, Opens, outcomesFrom, reported, openLine, linesAfter, Shows}
-use Rattle.histories.proofs.Listing.{listing-is-history}
+use Rattle.histories.proofs.Listing.{one-call-each, listing-is-history}
 use Rattle.old_journals.specs.Former.{formerLevel, formerGrant, formerStep, formerFrom, formerReports, formerListing}
 use Rattle.old_journals.specs.Promises.{SameButLetter, LinesAlike, AnsweredAsBefore}
 
@@ -65,42 +66,47 @@ all-as-before h T (Record.Release t ∷ rs) =
 
 -- ---- lines
 
--- what follows the letter
-abbrev restOf : Record → ℕ → ℕ → List Move → List ℕ
-restOf r answer node moves = spaced (decimal (who r) ∷ size r ∷ decimal answer ∷ nodeField r answer node ∷ moveFields moves) ++ bytes "\n"
+-- what follows the letter of a grant
+abbrev restOf : ℕ → ℕ → ℕ → ℕ → List Move → List ℕ
+restOf tenant size answer node moves =
+    spaced (decimal tenant ∷ decimal size ∷ decimal answer ∷ nodeIfDone answer node ∷ moveFields moves) ++ bytes "\n"
 
--- it is the same for a converted record, which has the size 0 as before
-same-rest : (r : Record) (answer node : ℕ) (moves : List Move) → restOf (converted r) answer node moves ≡ restOf r answer node moves
-same-rest (Record.Open height) answer node moves = refl
-same-rest (Record.GrantLevel tenant level) answer node moves = refl
-same-rest (Record.GrantPages tenant zero) answer node moves = refl
-same-rest (Record.GrantPages tenant (suc pages)) answer node moves = refl
-same-rest (Record.Release tenant) answer node moves = refl
-
-line-parts : (n : ℕ) (r : Record) (answer node : ℕ) (moves : List Move)
-    → lineOf n r answer node moves ≡ decimal n ++ byte " " ∷ letter r ∷ restOf r answer node moves
+-- a grant of 0 pages has the size 0, as the grant of level 0 that it becomes
+pages-line : (n tenant answer node : ℕ) (moves : List Move)
+    → lineOf n (Record.GrantPages tenant 0) answer node moves ≡ decimal n ++ byte " " ∷ byte "P" ∷ restOf tenant 0 answer node moves
 unfolding lineOf spaced
-line-parts n r answer node moves = append-assoc (decimal n) _ (bytes "\n")
+pages-line n tenant answer node moves = append-assoc (decimal n) _ (bytes "\n")
 
-line-alike : (n : ℕ) (r : Record) (answer node : ℕ) (moves : List Move)
-    → SameButLetter n (lineOf n r answer node moves) (lineOf n (converted r) answer node moves)
-line-alike n r answer node moves = record {
-  old-letter = letter r;
-  new-letter = letter (converted r);
-  rest = restOf r answer node moves;
-  old-line = line-parts n r answer node moves;
-  new-line =
-      line-parts n (converted r) answer node moves
-      ∙ ap (λ (s : List ℕ). decimal n ++ byte " " ∷ letter (converted r) ∷ s) (same-rest r answer node moves);
-}
+level-line : (n tenant answer node : ℕ) (moves : List Move)
+    → lineOf n (Record.GrantLevel tenant 0) answer node moves ≡ decimal n ++ byte " " ∷ byte "G" ∷ restOf tenant 0 answer node moves
+unfolding lineOf spaced
+level-line n tenant answer node moves = append-assoc (decimal n) _ (bytes "\n")
 
-lines-alike : (n : ℕ) (rs : List Record) (os : List Outcome) → LinesAlike (linesAfter n rs os) (linesAfter n (map converted rs) os)
+line-alike : (n : ℕ) (r s : Record) (answer node : ℕ) (moves : List Move) → Becomes r s
+    → SameButLetter r (lineOf n r answer node moves) (lineOf n s answer node moves)
+line-alike n r s answer node moves (Becomes.turned-over {tenant = tenant}) =
+    rw (pages-line n tenant answer node moves, level-line n tenant answer node moves) (letters tenant)
+  where
+    letters : (tenant : ℕ)
+        → SameButLetter (Record.GrantPages tenant 0) (decimal n ++ byte " " ∷ byte "P" ∷ restOf tenant 0 answer node moves)
+        (decimal n ++ byte " " ∷ byte "G" ∷ restOf tenant 0 answer node moves)
+    letters tenant = SameButLetter.other-letter n (restOf tenant 0 answer node moves)
+line-alike n r s answer node moves (Becomes.copied other) = SameButLetter.same-line (lineOf n r answer node moves) other
+
+-- with a report for each record
+lines-alike : (n : ℕ) (rs : List Record) (os : List Outcome) → length os ≡ length rs
+    → LinesAlike rs (linesAfter n rs os) (linesAfter n (map converted rs) os)
 unfolding linesAfter
-lines-alike n [] os = LinesAlike.no-more
-lines-alike n (r ∷ rs) [] = LinesAlike.no-more
-lines-alike n (r ∷ rs) (o ∷ os) =
+lines-alike n [] os e = LinesAlike.no-more
+lines-alike n (r ∷ rs) [] e = absurd (omega arith)
+lines-alike n (r ∷ rs) (o ∷ os) e =
     LinesAlike.line-more (lineOf (n + 1) r (o .answer) (o .node) (o .moves)) (lineOf (n + 1) (converted r) (o .answer) (o .node) (o .moves))
-    (line-alike (n + 1) r (o .answer) (o .node) (o .moves)) (lines-alike (n + 1) rs os)
+    (line-alike (n + 1) r (converted r) (o .answer) (o .node) (o .moves) (becomes r)) (lines-alike (n + 1) rs os (omega arith))
+
+former-length : (h : ℕ) (T : List ℕ) (cs : List Call) → length (formerFrom h T cs) ≡ length cs
+unfolding formerFrom
+former-length h T [] = refl
+former-length h T (c ∷ cs) = ap (λ (n : ℕ). suc n) (former-length h (formerStep h T c .table) cs)
 
 -- ---- the whole journal
 
@@ -131,9 +137,18 @@ module _ (j : List ℕ) (h : ℕ) (accepted : Opens h) (rs : List Record) (readi
   lists : listing (convertedJournal j) ≡ openLine h ++ linesAfter 1 (map converted rs) (formerReports h rs)
   lists = shown (listing-is-history (convertedJournal j) (Record.Open h ∷ map converted rs) Read.End reads)
 
-  alike : LinesAlike (formerListing h rs) (listing (convertedJournal j))
+  one-report-each : length (formerReports h rs) ≡ length rs
+  one-report-each = go reading
+    where
+      go : Reading j 0 (Record.Open h ∷ rs) Read.End → length (formerReports h rs) ≡ length rs
+      go (Reading.record-then {next = next} e more) =
+          former-length h (open-reserve h (replicate 4096 0) .table) (callsOf rs)
+          ∙ one-call-each j more (omega (arith, next-offset j 0 (Record.Open h) next e))
+
+  alike : LinesAlike (Record.Open h ∷ rs) (formerListing h rs) (listing (convertedJournal j))
   alike = rw lists
-      (LinesAlike.line-more (openLine h) (openLine h) (line-alike 1 (Record.Open h) 0 0 []) (lines-alike 1 rs (formerReports h rs)))
+      (LinesAlike.line-more (openLine h) (openLine h) (line-alike 1 (Record.Open h) (Record.Open h) 0 0 [] (becomes (Record.Open h)))
+      (lines-alike 1 rs (formerReports h rs) one-report-each))
 
 pub answered-as-before : AnsweredAsBefore
 answered-as-before j h accepted rs reading = record {

@@ -34,19 +34,19 @@ RefusedAsListed = (journal : List ℕ) → AsListed journal (judged journal)
 
 -- ---- what the conversion is answered
 
--- two lines that differ in nothing but their letter, which stands behind the ordinal and a space
-pub record SameButLetter (ordinal : ℕ) (old new : List ℕ) : Type 0 where
-  pub old-letter : ℕ
-  pub new-letter : ℕ
-  pub rest : List ℕ
-  pub old-line : old ≡ decimal ordinal ++ byte " " ∷ old-letter ∷ rest
-  pub new-line : new ≡ decimal ordinal ++ byte " " ∷ new-letter ∷ rest
+-- the old line of a record, and the line of what becomes of it
+pub data SameButLetter : Record → List ℕ → List ℕ → Type 0 where
+  -- a grant of 0 pages has the letter G for P, behind the ordinal and a space, and nothing else is another
+  other-letter : {tenant : ℕ} (ordinal : ℕ) (rest : List ℕ)
+      → SameButLetter (Record.GrantPages tenant 0) (decimal ordinal ++ byte " " ∷ byte "P" ∷ rest) (decimal ordinal ++ byte " " ∷ byte "G" ∷ rest)
+  -- every other record has the same line
+  same-line : {r : Record} (line : List ℕ) → ((tenant : ℕ) → ¬ (r ≡ Record.GrantPages tenant 0)) → SameButLetter r line line
 
--- lines that do so one by one
-pub data LinesAlike : List ℕ → List ℕ → Type 0 where
-  no-more : LinesAlike [] []
-  line-more : {ordinal : ℕ} (old new : List ℕ) {olds news : List ℕ} → SameButLetter ordinal old new → LinesAlike olds news
-      → LinesAlike (old ++ olds) (new ++ news)
+-- the lines of records, one by one
+pub data LinesAlike : List Record → List ℕ → List ℕ → Type 0 where
+  no-more : LinesAlike [] [] []
+  line-more : {r : Record} {rs : List Record} (old new : List ℕ) {olds news : List ℕ} → SameButLetter r old new → LinesAlike rs olds news
+      → LinesAlike (r ∷ rs) (old ++ olds) (new ++ news)
 
 -- a good journal, which reads as an open of height h and the records rs
 pub record AnsweredAlike (journal : List ℕ) (h : ℕ) (accepted : Opens h) (rs : List Record) : Type 0 where
@@ -56,7 +56,7 @@ pub record AnsweredAlike (journal : List ℕ) (h : ℕ) (accepted : Opens h) (rs
   pub reports : reported h accepted (map converted rs) ≡ formerReports h rs
   -- so the listing has the old listing's lines, but for the letter of the converted ones: their size is 0 before and after
   pub lists : listing (convertedJournal journal) ≡ openLine h ++ linesAfter 1 (map converted rs) (formerReports h rs)
-  pub alike : LinesAlike (formerListing h rs) (listing (convertedJournal journal))
+  pub alike : LinesAlike (Record.Open h ∷ rs) (formerListing h rs) (listing (convertedJournal journal))
 
 -- the promise for every journal
 abbrev pub AnsweredAsBefore : Type 0
