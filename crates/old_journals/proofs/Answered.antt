@@ -11,13 +11,14 @@ use lib.ListN.{length, replicate}
 use Rattle.table.specs.declared.Move.{Move}
 use Rattle.journal.specs.declared.Record.{Record}
 use Rattle.journal.specs.declared.Read.{Read}
+use Rattle.journal.specs.Format.{who}
 use Rattle.journal.specs.Journal.{Reading}
 use Rattle.journal.proofs.Theorems.{next-offset}
 use Rattle.calls.specs.Call.{Call, grant-level, grant-pages, release, levelFor}
 use Rattle.calls.specs.Step.{Outcome, step, open-reserve}
 use Rattle.lines.specs.Ascii.{byte, bytes}
 use Rattle.lines.specs.Decimal.{decimal}
-use Rattle.lines.specs.Line.{spaced, nodeIfDone, moveFields, lineOf}
+use Rattle.lines.specs.Line.{spaced, letter, size, nodeField, moveFields, lineOf}
 use Rattle.replay.specs.Listing.{listing}
 use Rattle.conversion.specs.Conversion.{converted, Contents, contents, convertedJournal}
 use Rattle.conversion.specs.Promises.{Becomes}
@@ -66,31 +67,23 @@ all-as-before h T (Record.Release t ∷ rs) =
 
 -- ---- lines
 
--- what follows the letter of a grant
-abbrev restOf : ℕ → ℕ → ℕ → ℕ → List Move → List ℕ
-restOf tenant size answer node moves =
-    spaced (decimal tenant ∷ decimal size ∷ decimal answer ∷ nodeIfDone answer node ∷ moveFields moves) ++ bytes "\n"
+-- what follows the letter; a grant of 0 pages and one of level 0 both have the size 0
+abbrev restOf : Record → ℕ → ℕ → List Move → List ℕ
+restOf r answer node moves = spaced (decimal (who r) ∷ size r ∷ decimal answer ∷ nodeField r answer node ∷ moveFields moves) ++ bytes "\n"
 
--- a grant of 0 pages has the size 0, as the grant of level 0 that it becomes
-pages-line : (n tenant answer node : ℕ) (moves : List Move)
-    → lineOf n (Record.GrantPages tenant 0) answer node moves ≡ decimal n ++ byte " " ∷ byte "P" ∷ restOf tenant 0 answer node moves
+line-parts : (n : ℕ) (r : Record) (answer node : ℕ) (moves : List Move)
+    → lineOf n r answer node moves ≡ decimal n ++ byte " " ∷ letter r ∷ restOf r answer node moves
 unfolding lineOf spaced
-pages-line n tenant answer node moves = append-assoc (decimal n) _ (bytes "\n")
-
-level-line : (n tenant answer node : ℕ) (moves : List Move)
-    → lineOf n (Record.GrantLevel tenant 0) answer node moves ≡ decimal n ++ byte " " ∷ byte "G" ∷ restOf tenant 0 answer node moves
-unfolding lineOf spaced
-level-line n tenant answer node moves = append-assoc (decimal n) _ (bytes "\n")
+line-parts n r answer node moves = append-assoc (decimal n) _ (bytes "\n")
 
 line-alike : (n : ℕ) (r s : Record) (answer node : ℕ) (moves : List Move) → Becomes r s
     → SameButLetter r (lineOf n r answer node moves) (lineOf n s answer node moves)
 line-alike n r s answer node moves (Becomes.turned-over {tenant = tenant}) =
-    rw (pages-line n tenant answer node moves, level-line n tenant answer node moves) (letters tenant)
+    rw (line-parts n (Record.GrantPages tenant 0) answer node moves, line-parts n (Record.GrantLevel tenant 0) answer node moves) letters
   where
-    letters : (tenant : ℕ)
-        → SameButLetter (Record.GrantPages tenant 0) (decimal n ++ byte " " ∷ byte "P" ∷ restOf tenant 0 answer node moves)
-        (decimal n ++ byte " " ∷ byte "G" ∷ restOf tenant 0 answer node moves)
-    letters tenant = SameButLetter.other-letter n (restOf tenant 0 answer node moves)
+    letters : SameButLetter (Record.GrantPages tenant 0) (decimal n ++ byte " " ∷ byte "P" ∷ restOf (Record.GrantPages tenant 0) answer node moves)
+        (decimal n ++ byte " " ∷ byte "G" ∷ restOf (Record.GrantLevel tenant 0) answer node moves)
+    letters = SameButLetter.other-letter n (restOf (Record.GrantLevel tenant 0) answer node moves)
 line-alike n r s answer node moves (Becomes.copied other) = SameButLetter.same-line (lineOf n r answer node moves) other
 
 -- with a report for each record
