@@ -245,7 +245,8 @@ demand-2 h T c = record {
 
     granted-by : (l : ℕ) → Asks h c l → step h T c .answer ≡ 0 → Case h T c → AfterGrant h T (tenantOf c) l (step h T c)
     granted-by l a e (by-grant k g) =
-        subst (λ (j : ℕ). AfterGrant h T (tenantOf c) j (step h T c)) (sym (asks-level h c k (g .asks)) ∙ asks-level h c l a) (after-grant h T c e k g)
+        let same : k ≡ l = sym (asks-level h c k (g .asks)) ∙ asks-level h c l a in
+        subst (λ (j : ℕ). AfterGrant h T (tenantOf c) j (step h T c)) same (after-grant h T c e k g)
     granted-by l a e (by-release r) = absurd (grants-do-not-release h c l a (r .asks))
     granted-by l a e (by-refusal n o) = absurd (refused-not n e o)
 

@@ -1,7 +1,7 @@
 -- The level that a number of pages takes is the smallest whose block has them and the guard page; 0 names none and takes 4 or the height.
 use mathlib.Core.Path.{_≡_, refl, sym}
 use mathlib.Core.Bool.{Bool, true, false, cond}
-use Prim.Native.Nat.{ℕ, zero, suc, _+_, _-_, _^_, _≤_, _<_, min}
+use Prim.Native.Nat.{ℕ, zero, suc, _+_, _-_, _^_, _≤_, _<_}
 use native.Mathlib.Nat.{add-zero, add-suc, suc-add, zero-add, pow-suc, le-antisymm}
 use native.Mathlib.Numerals.{add-one}
 use native.Mathlib.Omega.{arith}
@@ -47,11 +47,14 @@ least-unique p l m a b = le-antisymm (a .smallest m (b .enough)) (b .smallest l 
 pub least-level-is : (p l : ℕ) → Least p l → leastLevel p ≡ l
 least-level-is p l a = least-unique p (leastLevel p) l (least-level-least p) a
 
--- pages 0 is level 4, or the height where that is less
-pub level-for-none : (h p : ℕ) → p ≡ 0 → levelFor h p ≡ min 4 h
+-- pages 0 is level 4, or level h on a reserve under height 4
+pub level-for-none : (h : ℕ) → 4 ≤ h → levelFor h 0 ≡ 4
 unfolding levelFor
-level-for-none h zero e = refl
-level-for-none h (suc p) e = absurd (omega arith)
+level-for-none h q = omega arith
+
+pub level-for-none-low : (h : ℕ) → h < 4 → levelFor h 0 ≡ h
+unfolding levelFor
+level-for-none-low h q = omega arith
 
 -- any other number takes the smallest level whose block has that many pages and one more
 pub level-for-least : (h p : ℕ) → 0 < p → Least (p + 1) (levelFor h p)
@@ -64,7 +67,11 @@ level-for-named h p q = sym (least-level-is (p + 1) (levelFor h p) (level-for-le
 
 -- so pages of which the reserve has one more take a level that it has
 pub level-for-le : (h p : ℕ) → p < 2 ^ h → levelFor h p ≤ h
-level-for-le h zero q = rw (level-for-none h 0 refl) (omega arith)
+level-for-le h zero q = go (decLt h 4)
+  where
+    go : Dec (h < 4) → levelFor h 0 ≤ h
+    go (yes low) = omega (arith, level-for-none-low h low)
+    go (no high) = omega (arith, level-for-none h (omega arith))
 level-for-le h (suc p) q = level-for-least h (suc p) (omega arith) .smallest h (omega arith)
 
 -- and all others a level that it lacks

@@ -1,7 +1,7 @@
 -- What document 02, L1 and L4, promises of a grant by pages, for every height, table and argument.
 use mathlib.Core.Path.{_≡_, refl, sym, _∙_}
 use mathlib.Core.Bool.{Bool, true, false, not}
-use mathlib.Core.List.{List, [], _∷_}
+use mathlib.Core.List.{List, [], _∷_, _++_}
 use mathlib.Core.Logic.{_↔_}
 use Prim.Native.Nat.{ℕ, _+_, _^_, _≤_, _<_}
 use native.Mathlib.Omega.{arith}
@@ -17,7 +17,7 @@ use Rattle.calls.specs.Call.{grant-pages, levelFor}
 use Rattle.calls.specs.Step.{Check, check, first, pages-check, grant-holdings, step}
 use Rattle.calls.specs.Demand.{by-pages}
 use Rattle.calls.specs.Pages.{PagesPromise}
-use Rattle.calls.proofs.Level.{level-for-none, level-for-least, level-for-le, level-for-above}
+use Rattle.calls.proofs.Level.{level-for-none, level-for-none-low, level-for-least, level-for-le, level-for-above}
 use Rattle.calls.proofs.Checks.{four, four-numbered, first-after-none, first-stands, answer-is-first}
 use Rattle.calls.proofs.Accepted.{demand-2}
 
@@ -36,17 +36,22 @@ refused-iff-above h p = (level-for-above h p, λ above. go above (decLt p (2 ^ h
     go above (yes q) = absurd (omega (arith, level-for-le h p q))
     go above (no nq) = omega arith
 
+-- what is checked after 6
+later : ℕ → List ℕ → ℕ → ℕ → List Check
+later h T t p = check 7 (not (in-order? h T)) ∷ grant-holdings h T t (levelFor h p)
+
+answer-by-pages : (h : ℕ) (T : List ℕ) (t p m : ℕ)
+    → step h T (grant-pages t p m) .answer ≡ first (four h (length T) t m ++ pages-check h p ∷ later h T t p)
+unfolding later
+answer-by-pages h T t p m = answer-is-first h T (grant-pages t p m)
+
 module _ (h : ℕ) (T : List ℕ) (t p m : ℕ) (passed : first (four h (length T) t m) ≡ 0) where
-  later : List Check
-  later = check 7 (not (in-order? h T)) ∷ grant-holdings h T t (levelFor h p)
-
-  decided : step h T (grant-pages t p m) .answer ≡ first (pages-check h p ∷ later)
-  unfolding later
+  decided : step h T (grant-pages t p m) .answer ≡ first (pages-check h p ∷ later h T t p)
   decided =
-      answer-is-first h T (grant-pages t p m)
-      ∙ first-after-none (four h (length T) t m) (pages-check h p ∷ later) (four-numbered h (length T) t m) passed
+      answer-by-pages h T t p m
+      ∙ first-after-none (four h (length T) t m) (pages-check h p ∷ later h T t p) (four-numbered h (length T) t m) passed
 
-  later-not-6 : ¬ (first later ≡ 6)
+  later-not-6 : ¬ (first (later h T t p) ≡ 6)
   unfolding later
   later-not-6 = not-6 (not (in-order? h T)) (ltb 0 (nodeAt T t)) (ltb (2 ^ h) (pages (countsOf h T) + 2 ^ levelFor h p))
 
@@ -79,14 +84,15 @@ never-6 h T t p m z e = go (ℕ-discrete (first (four h (length T) t m)) 0)
   where
     go : Dec (first (four h (length T) t m) ≡ 0) → ⊥
     go (yes passed) = omega (arith, only-6 h T t p m passed e, pow-pos h)
-    go (no refused) = four-not-6 (ltb 12 h) (not (eqb (length T) 4096)) (ltb m 4) (ltb 4095 t)
-        (sym (first-stands (four h (length T) t m) (pages-check h p ∷ check 7 (not (in-order? h T)) ∷ grant-holdings h T t (levelFor h p)) refused) ∙ sym (answer-is-first h T (grant-pages t p m)) ∙ e)
+    go (no refused) =
+        let stands = first-stands (four h (length T) t m) (pages-check h p ∷ later h T t p) refused in
+        four-not-6 (ltb 12 h) (not (eqb (length T) 4096)) (ltb m 4) (ltb 4095 t) (sym stands ∙ sym (answer-by-pages h T t p m) ∙ e)
 
 pub grant-by-pages : PagesPromise
 grant-by-pages h T t p m = record {
   guarded = λ q e. rw (on-level h T t p m e) (level-for-least h p q);
-  unnamed = λ z q e. omega (arith, on-level h T t p m e, level-for-none h p z);
-  unnamed-low = λ z q e. omega (arith, on-level h T t p m e, level-for-none h p z);
+  unnamed = λ z q e. on-level h T t p m e ∙ rw z (level-for-none h q);
+  unnamed-low = λ z q e. on-level h T t p m e ∙ rw z (level-for-none-low h q);
   unnamed-goes-in = λ z. never-6 h T t p m z;
   refused = λ passed. (only-6 h T t p m passed, answered-6 h T t p m passed);
   no-level = refused-iff-above h p;

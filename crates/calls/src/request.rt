@@ -1,7 +1,7 @@
 // What a call's arguments ask for, and the refusals that they alone decide.
 ghost use mathlib.Core.Path.{_≡_};
 ghost use mathlib.Core.List.{_++_};
-ghost use Prim.Native.Nat.{_≤_, min};
+ghost use Prim.Native.Nat.{_≤_};
 ghost use Rattle.calls.specs.Call.{leastLevel, levelFor};
 ghost use Rattle.calls.specs.Step.{first, length-checks, list-checks, size-checks, validity};
 ghost use Rattle.calls.specs.Value.{callOf};
@@ -39,7 +39,7 @@ fn least_level(pages: u32) -> u16
 
 // The level of an image that names no size: the whole of a reserve that is lower.
 fn level_of_no_size(height: u16) -> u16
-    ensures { λ r. ⌜ r ≡ min 4 height ⌝ }
+    ensures { λ r. ⌜ r ≡ levelFor height 0 ⌝ }
 {
     if height < LEVEL_OF_NO_SIZE {
         return height;

@@ -2,7 +2,7 @@
 use mathlib.Core.Path.{sym, _∙_}
 use native.Mathlib.Omega.{arith}
 use borrow.Author.Needs.{needs}
-use Rattle.calls.proofs.Level.{level-for-none, level-for-named}
+use Rattle.calls.proofs.Level.{level-for-named}
 use Rattle.calls.proofs.request.level_for.Statement.{statement}
 use Rattle.calls.proofs.request.level_for.Tie as tie
 
@@ -10,9 +10,7 @@ level-of-no-size-requires : tie.Need-level-of-no-size-requires
 level-of-no-size-requires c κs = search needs
 
 returns : tie.Need-returns
-returns c =
-    let start = c .before .before in
-    c .level-of-no-size .ensures ∙ sym (level-for-none (start .args .height) (start .args .pages) (c .before .if1 .taken))
+returns c = rw (c .before .if1 .taken) (c .level-of-no-size .ensures)
 
 add-least-level : tie.Need-add-least-level
 add-least-level c = search needs
