@@ -1,17 +1,13 @@
 -- A journal is refused exactly if its listing ends with a refusal, and with that refusal.
-use mathlib.Core.Path.{_≡_, sym, ap, _∙_}
-use mathlib.Core.Bool.{true≢false}
+use mathlib.Core.Path.{_≡_, ap}
 use mathlib.Core.List.{List, [], _++_, append-nil}
 use Prim.Native.Nat.{ℕ}
-use native.Mathlib.Omega.{arith}
 use borrow.Author.Tests.{lt-ltb, le-ltb}
 use lib.ListN.{length}
 use Rattle.journal.specs.declared.Record.{Record}
 use Rattle.journal.specs.declared.Read.{Read}
-use Rattle.journal.specs.Reader.{readAt}
 use Rattle.journal.specs.Journal.{Reading}
-use Rattle.journal.proofs.Laws.{no-open-empty}
-use Rattle.journal.proofs.Theorems.{end-past-last}
+use Rattle.journal.proofs.Theorems.{no-end-at-start}
 use Rattle.journal.proofs.Whole.{reading-ends}
 use Rattle.lines.specs.Line.{stopLine}
 use Rattle.replay.specs.Listing.{listing}
@@ -34,12 +30,6 @@ reading-ended j (Reading.ends e) = Ended.at-end
 reading-ended j (Reading.refused e) = Ended.refused
 reading-ended j (Reading.record-then e more) = reading-ended j more
 
--- a journal without a byte has no end, but refusal 11
-no-end-at-once : (j : List ℕ) → readAt j 0 ≡ Read.End → ⊥
-no-end-at-once j e =
-    let nothing = end-past-last j 0 e in
-    true≢false (sym (no-open-empty j (omega (arith, nothing .1))) ∙ nothing .0 .opened)
-
 module _ (j : List ℕ) where
   -- what becomes of the journal, by what ends its contents
   abbrev judgedAfter : Read → Conversion
@@ -59,7 +49,7 @@ module _ (j : List ℕ) where
       (lines-unmarked 1 rs (reported h accepted rs))
 
   ends-shown : (rs : List Record) (last : Read) → Reading j 0 rs last → Shows j rs last → AsListed j (judgedAfter (contentsOf rs last .last))
-  ends-shown rs last (Reading.ends e) shows = absurd (no-end-at-once j e)
+  ends-shown rs last (Reading.ends e) shows = absurd (no-end-at-start j e)
   ends-shown rs last (Reading.refused {n = n} {o = o} e) (Shows.nothing-read is) = ends-refused [] n o tt is
   ends-shown rs last (Reading.record-then e more) (Shows.too-high {h = h} high is) =
       rw (lt-ltb 12 h high) (ends-refused [] 1 0 tt is)

@@ -64,11 +64,12 @@ separator-unmarked staged = go (eqb staged 0)
 move-unmarked : (m : Move) → Unmarked (moveField m)
 unfolding moveField
 move-unmarked m =
-    let tenant = unmarked-both (decimal (m .tenant)) (bytes ":") (decimal-unmarked (m .tenant)) ((λ e. omega arith), tt) in
-    let from = unmarked-both (decimal (m .tenant) ++ bytes ":") (decimal (m .from)) tenant (decimal-unmarked (m .from)) in
-    let to = unmarked-both (decimal (m .tenant) ++ bytes ":" ++ decimal (m .from)) (separator (m .staged) ∷ []) from (separator-unmarked (m .staged)) in
-    unmarked-both (decimal (m .tenant) ++ bytes ":" ++ decimal (m .from) ++ (separator (m .staged) ∷ [])) (decimal (m .to)) to
-    (decimal-unmarked (m .to))
+    let tenant = decimal (m .tenant) ++ bytes ":" in
+    let sign = separator (m .staged) ∷ [] in
+    let has-tenant = unmarked-both (decimal (m .tenant)) (bytes ":") (decimal-unmarked (m .tenant)) ((λ e. omega arith), tt) in
+    let has-from = unmarked-both tenant (decimal (m .from)) has-tenant (decimal-unmarked (m .from)) in
+    let has-sign = unmarked-both (tenant ++ decimal (m .from)) sign has-from (separator-unmarked (m .staged)) in
+    unmarked-both (tenant ++ decimal (m .from) ++ sign) (decimal (m .to)) has-sign (decimal-unmarked (m .to))
 
 -- ---- lines
 
