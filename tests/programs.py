@@ -261,3 +261,14 @@ def check_interrupted_writing(program, source, wanted, middle):
             got += piece
         equal("what was read", got, wanted)
         ends_with(running, b"", b"")
+
+
+def check_streams(program, folder, journal, wanted, fails, sizes, middle):
+    """All of these for one journal in a folder: writing fails at each of the sizes, or is disturbed when so many bytes in the middle were read."""
+    source = folder / "source"
+    source.write_bytes(journal)
+    check_no_reading(program, folder)
+    check_reading(program, journal, wanted)
+    check_no_writing(program, source, wanted, fails, sizes)
+    check_leaving_reader(program, source, wanted, middle)
+    check_interrupted_writing(program, source, wanted, middle)

@@ -12,23 +12,7 @@ import subprocess
 import sys
 import tempfile
 
-from programs import (
-    Program,
-    check,
-    check_interrupted_writing,
-    check_leaving_reader,
-    check_no_reading,
-    check_no_writing,
-    check_reading,
-    conclude,
-    ends_with,
-    feed,
-    grant,
-    grant_pages,
-    limited,
-    release,
-    sockets,
-)
+from programs import Program, check, check_streams, conclude, ends_with, feed, grant, grant_pages, limited, release, sockets
 
 CONVERT_PAGES, ORACLE, FAILS, EXAMPLES = (os.path.abspath(path) for path in sys.argv[1:])
 PROGRAM = Program(CONVERT_PAGES)
@@ -295,18 +279,12 @@ def check_arguments():
         check_unchanged(" ".join(arguments), arguments, files, USAGE)
 
 
-def check_streams():
+def check_standard_output():
     """Reading and writing that go half way, as for the other programs."""
     journal = drawn(65536)
     converted, _ = by_oracle(journal)
     with tempfile.TemporaryDirectory() as path:
-        source = pathlib.Path(path, "old")
-        source.write_bytes(journal)
-        check_no_reading(PROGRAM, source.parent)
-        check_reading(PROGRAM, journal, converted)
-        check_no_writing(PROGRAM, source, converted, FAILS, (0, 1, 1000, len(converted) - 1))
-        check_leaving_reader(PROGRAM, source, converted, 10000)
-        check_interrupted_writing(PROGRAM, source, converted, 10000)
+        check_streams(PROGRAM, pathlib.Path(path), journal, converted, FAILS, (0, 1, 1000, len(converted) - 1), 10000)
 
 
 check_converted()
@@ -319,5 +297,5 @@ check_no_file()
 check_no_old_file()
 check_failing_calls()
 check_arguments()
-check_streams()
+check_standard_output()
 conclude()

@@ -14,21 +14,7 @@ import subprocess
 import sys
 import tempfile
 
-from programs import (
-    Program,
-    check,
-    check_interrupted_writing,
-    check_leaving_reader,
-    check_no_reading,
-    check_no_writing,
-    check_reading,
-    conclude,
-    ends_with,
-    equal,
-    grant,
-    grant_pages,
-    release,
-)
+from programs import Program, check, check_streams, conclude, ends_with, equal, grant, grant_pages, release
 
 LISTING, ORACLE, FAILS, EXAMPLES = (os.path.abspath(path) for path in sys.argv[1:])
 PROGRAM = Program(LISTING)
@@ -239,16 +225,6 @@ def check_arguments(folder):
         ends_with(PROGRAM.start(str(journal), preexec_fn=lambda: os.close(0)), listing, b"")
 
 
-def check_writing(folder, journal, listing):
-    """Writes that take less than was asked, are interrupted, or fail half way."""
-    source = folder / "long"
-    source.write_bytes(journal)
-    sizes = 0, 1, 1000, BLOCK - 1, BLOCK, BLOCK + 1, 6 * BLOCK + 777, 7 * BLOCK + 1, len(listing) - 1
-    check_no_writing(PROGRAM, source, listing, FAILS, sizes)
-    check_leaving_reader(PROGRAM, source, listing, 7 * BLOCK + 1)
-    check_interrupted_writing(PROGRAM, source, listing, 3 * BLOCK)
-
-
 def main():
     long_journal, drawn_journal = longest_listing(), drawn()
     long_listing, drawn_listing = listed_by_oracle(long_journal, drawn_journal)
@@ -257,9 +233,9 @@ def main():
         check_carrying_out()
         check_listings(folder, long_journal, long_listing, drawn_journal, drawn_listing)
         check_arguments(folder)
-        check_no_reading(PROGRAM, folder)
-        check_reading(PROGRAM, long_journal, long_listing)
-        check_writing(folder, long_journal, long_listing)
+        # Where writing fails: inside a block, at its end, and beside it.
+        places = 0, 1, 1000, BLOCK - 1, BLOCK, BLOCK + 1, 6 * BLOCK + 777, 7 * BLOCK + 1, len(long_listing) - 1
+        check_streams(PROGRAM, folder, long_journal, long_listing, FAILS, places, 7 * BLOCK + 1)
     conclude()
 
 
