@@ -107,7 +107,7 @@ extern "C" {
 /* The version of this interface. Whatever changes a layout, a signature, a constant or what a function does with the same
  * arguments raises it: the major number, and the minor one is then 0, if programs have to be changed or compiled again; the
  * minor number if something is only added. 2.0: a grant by pages has a guard page. 3.0: a move has a fourth number, and the
- * moves stand in an order in which they can be carried out. */
+ * moves stand in an order in which they can be carried out. 4.0: a grant of 0 pages gets 16 pages, and no longer one. */
 #define RESERVE_VERSION_MAJOR 4
 #define RESERVE_VERSION_MINOR 0
 #define RESERVE_VERSION (1000 * RESERVE_VERSION_MAJOR + RESERVE_VERSION_MINOR)

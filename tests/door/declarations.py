@@ -3,12 +3,14 @@
 
 Each function and each struct has to be on both sides, with the same parameters or fields: their names, their types and
 their order. A slice `table: &mut [u8]` is `uint8_t *table, size_t table_length` in C. Each constant has to have the number
-that crates/refusal or a definition in specs/ has. Prints what differs; the last line is 'N passed, M failed'.
+that crates/refusal or a definition in specs/ has, and the header has to say what each major version changed. Prints what
+differs; the last line is 'N passed, M failed'.
 """
 import glob
 import re
 import sys
 
+HEADER = "include/reserve.h"
 WIDTHS = {"uint8_t": "u8", "uint16_t": "u16", "uint32_t": "u32", "uint64_t": "u64", "size_t": "usize"}
 
 # What the header alone says.
@@ -140,13 +142,23 @@ def sizes():
     }
 
 
+def versions_told():
+    """The major versions of which a comment says what they changed, as in '2.0: …'."""
+    return [int(major) for major in re.findall(r"\b(\d+)\.0: ", text_of(HEADER))]
+
+
+def versions():
+    """Those that changed something: all from the second to that of the header."""
+    return list(range(2, number(HEADER, r"^#define RESERVE_VERSION_MAJOR (\d+)$") + 1))
+
+
 def main():
-    header = re.sub(r"/\*.*?\*/", "", text_of("include/reserve.h"), flags=re.S)
+    header = re.sub(r"/\*.*?\*/", "", text_of(HEADER), flags=re.S)
     exported = {}
     for path in sorted(glob.glob("crates/reserve/src/*.rt")):
         exported.update(source_declarations(text_of(path)))
-    declared = {**header_declarations(header), **header_constants(header)}
-    written = {**exported, **refusals(), **kinds(), **sizes()}
+    declared = {**header_declarations(header), **header_constants(header), "versions": versions_told()}
+    written = {**exported, **refusals(), **kinds(), **sizes(), "versions": versions()}
     differing = 0
     names = sorted(declared.keys() | written.keys())
     for name in names:
