@@ -5,28 +5,27 @@ use crate::message::append;
 use crate::message::complain;
 use crate::whole::write_all;
 
-// Writes all of the bytes to the file of that name, which need not be there, and answers true; or says on standard error why they cannot be
-// written, leaves what has the name as it was, and answers false.
-pub fn write_file(program: &[u8], name: &[u8], bytes: &[u8]) -> bool {
+// Writes all of the bytes to the file of that name, which need not be there; or says on standard error why they cannot be written, and leaves what
+// has the name as it was.
+pub fn write_file(program: &[u8], name: &[u8], bytes: &[u8]) {
     // A name that did not fit would be cut, and could be that of another file. No path is as long as this.
     let mut text = [0u8; 8192];
     let n = part_name(name, &mut text);
-    write_through(program, &text[..n], name, bytes)
+    write_through(program, &text[..n], name, bytes);
 }
 
 // Writes the bytes to a new file, the part, which then takes the name. If that fails, the part is removed; if there is a file of its name from the
 // start, that one stays.
-fn write_through(program: &[u8], part: &[u8], name: &[u8], bytes: &[u8]) -> bool {
+fn write_through(program: &[u8], part: &[u8], name: &[u8], bytes: &[u8]) {
     let fd = os::create(part);
     if fd < 0 {
         complain(program, b"write", part);
-        return false;
+        return;
     }
     let done = fill(program, fd, part, bytes) && take_name(program, part, name);
     if !done {
         os::unlink(part);
     }
-    done
 }
 
 // Stores the bytes in the new file and closes it, in any case. What fails is said before another call changes errno.

@@ -4,14 +4,14 @@ mod message;
 mod whole;
 mod word;
 
-pub use file::write_file;
-pub use message::complain;
-pub use message::refuse;
 pub use whole::Input;
-pub use whole::read_all;
-pub use whole::write_all;
 ghost use Rattle.io.specs.Counts.{Counts};
 ghost use Rattle.command.specs.Whole.{Within};
+use file::write_file;
+use message::complain;
+use message::refuse;
+use whole::read_all;
+use whole::write_all;
 use word::is_option;
 
 // Whether a program that takes from `least` to `most` arguments has work to do. If the first is --help, the usage goes to standard output; if

@@ -1,4 +1,5 @@
 pub mod Laws
+pub mod Records
 pub mod Contents
 pub mod Writing
 pub mod Promises

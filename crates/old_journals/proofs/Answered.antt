@@ -22,7 +22,8 @@ use Rattle.lines.specs.Line.{spaced, letter, size, nodeField, moveFields, lineO
 use Rattle.replay.specs.Listing.{listing}
 use Rattle.conversion.specs.Conversion.{converted, Contents, contents, convertedJournal}
 use Rattle.conversion.specs.Promises.{Becomes}
-use Rattle.conversion.proofs.Promises.{becomes, conversion-promise}
+use Rattle.conversion.proofs.Records.{becomes}
+use Rattle.conversion.proofs.Promises.{conversion-promise}
 use Rattle.histories.specs.Listing.{callsOf, Opens, outcomesFrom, reported, openLine, linesAfter, Shows}
 use Rattle.histories.proofs.Listing.{one-call-each, listing-is-history}
 use Rattle.old_journals.specs.Former.{formerLevel, formerGrant, formerStep, formerFrom, formerReports, formerListing}
