@@ -1,4 +1,1 @@
 pub mod Whole
-pub mod Word
-pub mod Message
-pub mod File

@@ -1,7 +1,4 @@
 // Writing a file whole: the bytes go into a new file beside it, which takes its name once all of them are there.
-ghost use Rattle.command.specs.Message.{Begins};
-ghost use Rattle.command.specs.File.{partOf};
-use crate::message::append;
 use crate::message::complain;
 use crate::whole::write_all;
 
@@ -10,7 +7,7 @@ use crate::whole::write_all;
 pub fn write_file(program: &[u8], name: &[u8], bytes: &[u8]) {
     // A name that did not fit would be cut, and could be that of another file. No path is as long as this.
     let mut text = [0u8; 8192];
-    let n = part_name(name, &mut text);
+    let n = words::part_name(name, &mut text);
     write_through(program, &text[..n], name, bytes);
 }
 
@@ -54,12 +51,4 @@ fn take_name(program: &[u8], part: &[u8], name: &[u8]) -> bool {
         return false;
     }
     true
-}
-
-// Puts the name of the part into lent bytes, as far as there is room, and answers how many it has there.
-fn part_name(name: &[u8], text: &mut [u8]) -> usize
-    ensures { λ r. ⌜ Begins r (now (text .exit)) (partOf (now (name .entry))) ⌝ }
-{
-    let n = append(text, 0, name);
-    append(text, n, b".part")
 }

@@ -2,7 +2,6 @@
 mod file;
 mod message;
 mod whole;
-mod word;
 
 pub use whole::Input;
 ghost use Rattle.io.specs.Counts.{Counts};
@@ -12,7 +11,6 @@ use message::complain;
 use message::refuse;
 use whole::read_all;
 use whole::write_all;
-use word::is_option;
 
 // Whether a program that takes from `least` to `most` arguments has work to do. If the first is --help, the usage goes to standard output; if
 // there are fewer or more, or one is an option, to standard error.
@@ -59,7 +57,7 @@ fn has_option(given: usize) -> bool {
 fn is_option_at(i: usize) -> bool {
     let mut text = io::buffer();
     let n = argument(i, &mut text);
-    is_option(&text[..n])
+    words::is_option(&text[..n])
 }
 
 // Puts argument `i` at the start of the buffer and answers its length; if there is none, `-`, which names standard input. Of an argument that is
@@ -70,12 +68,23 @@ pub fn argument(i: usize, text: &mut [u8]) -> usize
     let n = os::arg(i, text);
     let error = os::errno();
     if error == libc::EINVAL {
-        return word::put_dash(text);
+        return put_dash(text);
     }
     if error == libc::ENAMETOOLONG {
         return text.len();
     }
     n
+}
+
+// Puts `-` at the start of the text and answers its length, 0 if the text has no room for it.
+fn put_dash(text: &mut [u8]) -> usize
+    ensures { λ r. ⌜ Counts r (now (text .exit)) ⌝ }
+{
+    if text.len() == 0 {
+        return 0;
+    }
+    text[0] = b'-';
+    1
 }
 
 // Reads the file of that name, or standard input for `-`, into a lent buffer, as `read_all` does, or says on standard error why it cannot be read.

@@ -2,7 +2,7 @@
 use mathlib.Core.Path.{_≡_}
 use mathlib.Core.List.{List, _++_}
 use Prim.Native.Nat.{ℕ, _+_, _-_, _≤_, min}
-use lib.ListN.{length, take}
+use lib.ListN.{length, take, drop}
 use lib.Seq.{paste}
 use Rattle.lines.specs.Ascii.{bytes}
 use Rattle.lines.specs.Decimal.{decimal}
@@ -16,10 +16,11 @@ abbrev pub refusedAt : List ℕ → List ℕ → List ℕ → ℕ → ℕ → Li
 refusedAt program deed thing number offset =
     cannot program deed thing ++ bytes ": refusal " ++ decimal number ++ bytes " at offset " ++ decimal offset ++ bytes "\n"
 
--- so many bytes at the start of the text are those of s, or as many of them as go in
-pub record Begins (n : ℕ) (text s : List ℕ) : Type 0 where
-  pub within : n ≤ length text
-  pub bytes : take n text ≡ take (length text) s
+-- the first n bytes of the text are those of s, or as many of them as go in, and the bytes after them are as they were
+pub record Begins (s before : List ℕ) (n : ℕ) (after : List ℕ) : Type 0 where
+  pub within : n ≤ length after
+  pub bytes : take n after ≡ take (length after) s
+  pub rest : drop n after ≡ drop n before
 
 -- after the first n bytes of `before` come those of `more`, as many as there is room for; r is the index after them
 pub record Appended (n : ℕ) (more before : List ℕ) (r : ℕ) (after : List ℕ) : Type 0 where

@@ -1,4 +1,4 @@
--- `word::is_option` meets its contract: a word of two bytes or more is an option by its first.
+-- `is_option` meets its contract: a word of two bytes or more is an option by its first.
 use mathlib.Core.Path.{_≡_, refl}
 use mathlib.Core.Bool.{false}
 use mathlib.Core.List.{List, [], _∷_}
@@ -7,9 +7,9 @@ use native.Mathlib.Omega.{arith}
 use lib.Dec.{eqb}
 use lib.ListN.{length, getD}
 use borrow.Author.Needs.{needs}
-use Rattle.command.specs.Word.{isOption}
-use Rattle.command.proofs.word.is_option.Statement.{statement}
-use Rattle.command.proofs.word.is_option.Tie as tie
+use Rattle.words.specs.Word.{isOption}
+use Rattle.words.proofs.is_option.Statement.{statement}
+use Rattle.words.proofs.is_option.Tie as tie
 
 short-is-no-option : (word : List ℕ) → length word < 2 → false ≡ isOption word
 short-is-no-option [] h = refl

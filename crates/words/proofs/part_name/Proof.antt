@@ -1,8 +1,8 @@
 -- `part_name` meets its contract: the ending is put to the end of the name.
 use borrow.Author.Needs.{needs}
-use Rattle.command.proofs.Messages.{begins-empty, begins-more}
-use Rattle.command.proofs.file.part_name.Statement.{statement}
-use Rattle.command.proofs.file.part_name.Tie as tie
+use Rattle.words.proofs.Messages.{begins-empty, begins-more}
+use Rattle.words.proofs.part_name.Statement.{statement}
+use Rattle.words.proofs.part_name.Tie as tie
 
 append-requires : tie.Need-append-requires
 append-requires c κs = search needs
@@ -18,8 +18,8 @@ same-length c = search needs
 
 returns : tie.Need-returns
 returns c =
-    let name = begins-more _ _ _ _ _ _ (begins-empty _) (c .before .before .before .before .before .before .before .append .ensures) in
-    begins-more _ _ _ _ _ _ name (c .before .before .append2 .ensures)
+    let name = begins-more _ _ _ _ _ _ _ (begins-empty _) (c .before .before .before .before .before .before .before .append .ensures) in
+    begins-more _ _ _ _ _ _ _ name (c .before .before .append2 .ensures)
 
 pub part-name-spec : {M : Type 1} → statement M
 part-name-spec =

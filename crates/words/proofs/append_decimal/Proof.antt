@@ -1,25 +1,26 @@
 -- `append_decimal` meets its contract: the text that grew from the empty one has the digits and no other bytes.
 use mathlib.Core.Path.{_≡_, _∙_}
+use Prim.Native.Nat.{_≤_}
 use native.Mathlib.Omega.{arith}
+use lib.ListN.{length, take, length-take}
 use borrow.Author.Needs.{needs}
-use Rattle.io.specs.Counts.{Counts}
 use Rattle.lines.specs.Decimal as Decimal
 use Rattle.lines.specs.Text.{textOf}
 use Rattle.lines.proofs.Decimal.{decimal-length}
 use Rattle.lines.proofs.Texts.{spelt-text}
-use Rattle.command.proofs.Counted.{counts-taken}
-use Rattle.command.proofs.message.append_decimal.Statement.{statement}
-use Rattle.command.proofs.message.append_decimal.Tie as tie
+use Rattle.words.proofs.append_decimal.Statement.{statement}
+use Rattle.words.proofs.append_decimal.Tie as tie
 
 -- the digits of the number are the text's bytes
 digits : (c : tie.After-decimal) → textOf (c .decimal .result) ≡ Decimal.decimal (c .before .before .before .args .number)
 digits c = c .decimal .ensures .text ∙ rw (spelt-text (c .before .empty .ensures))
 
--- and it counts them
-counted : (c : tie.After-decimal) → let text = c .decimal .result in Counts (text .n) (text .bytes)
-counted c =
-    let text = c .decimal .result in
-    counts-taken (text .n) (text .bytes) (rw (digits c) (omega (arith, c .decimal .ensures .size, c .before .empty .ensures .size)))
+-- it counts them, and has as many
+counted : (c : tie.After-decimal) → let text = c .decimal .result in text .n ≡ length (take (text .n) (text .bytes))
+counted c = rw (digits c) (omega (arith, c .decimal .ensures .size, c .before .empty .ensures .size))
+
+within : (c : tie.After-decimal) → let text = c .decimal .result in text .n ≤ length (text .bytes)
+within c = let text = c .decimal .result in omega (arith, counted c ∙ length-take (text .n) (text .bytes))
 
 empty-requires : tie.Need-empty-requires
 empty-requires c κs = search needs
@@ -28,10 +29,10 @@ decimal-requires : tie.Need-decimal-requires
 decimal-requires c κs = omega (arith, c .empty .ensures .size, decimal-length 19 (c .before .before .args .number) (omega arith))
 
 array-share-prefix-bytes : tie.Need-array-share-prefix-bytes
-array-share-prefix-bytes c = counted (c .before .before) .0
+array-share-prefix-bytes c = within (c .before .before)
 
 slice-aggregate-append : tie.Need-slice-aggregate-append
-slice-aggregate-append c = counted (c .before .before .before) .1
+slice-aggregate-append c = counted (c .before .before .before)
 
 append-requires : tie.Need-append-requires
 append-requires c κs = search needs

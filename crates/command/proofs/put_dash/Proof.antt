@@ -1,10 +1,10 @@
--- `word::put_dash` meets its contract: the text is as long as it was.
+-- `put_dash` meets its contract: the text is as long as it was.
 use native.Mathlib.Omega.{arith}
 use lib.ListN.{set, length-set}
 use borrow.Author.Needs.{needs}
 use Rattle.command.proofs.Counted.{counts-within}
-use Rattle.command.proofs.word.put_dash.Statement.{statement}
-use Rattle.command.proofs.word.put_dash.Tie as tie
+use Rattle.command.proofs.put_dash.Statement.{statement}
+use Rattle.command.proofs.put_dash.Tie as tie
 
 returns : tie.Need-returns
 returns c = search needs

@@ -4,10 +4,10 @@ use denote.Ref.{now}
 use borrow.Author.Needs.{needs}
 use Rattle.lines.specs.Ascii.{bytes}
 use Rattle.lines.specs.Decimal.{decimal}
-use Rattle.command.specs.Message.{cannot, Begins}
-use Rattle.command.proofs.Messages.{begins-more}
-use Rattle.command.proofs.message.refusal.Statement.{statement}
-use Rattle.command.proofs.message.refusal.Tie as tie
+use Rattle.words.specs.Message.{cannot, Begins}
+use Rattle.words.proofs.Messages.{begins-more}
+use Rattle.words.proofs.refusal.Statement.{statement}
+use Rattle.words.proofs.refusal.Tie as tie
 
 -- what stands in the text before the newline is put to it
 all-but-newline : (c : tie.After-append-arg6)
@@ -15,19 +15,18 @@ all-but-newline : (c : tie.After-append-arg6)
     let at-refusal = at-number .before .before .before .before in
     let given = at-refusal .before .before .before .before .before .before .before .before .before .before .before .args in
     let put = c .before .before .before .before .append-decimal2 in
-    Begins (put .result) (put .last .0)
-    (cannot (now (given .program)) (now (given .deed)) (now (given .thing)) ++ bytes ": refusal " ++ decimal (given .number)
-    ++ bytes " at offset " ++ decimal (given .offset))
+    Begins (cannot (now (given .program)) (now (given .deed)) (now (given .thing)) ++ bytes ": refusal " ++ decimal (given .number)
+    ++ bytes " at offset " ++ decimal (given .offset)) (now (given .text)) (put .result) (put .last .0)
 all-but-newline c =
     let at-number = c .before .before .before .before .before .before .before .before .before .before .before .before .before in
     let at-refusal = at-number .before .before .before .before in
     let at-message = at-refusal .before .before .before .before .before in
     let given = at-message .before .before .before .before .before .before .args in
     let what = cannot (now (given .program)) (now (given .deed)) (now (given .thing)) in
-    let refused = begins-more what _ _ _ _ _ (at-message .message .ensures) (at-refusal .append .ensures) in
-    let number = begins-more _ _ _ _ _ _ refused (at-number .append-decimal .ensures) in
-    let until-offset = begins-more _ _ _ _ _ _ number (c .before .before .before .before .before .before .before .before .append2 .ensures) in
-    begins-more _ _ _ _ _ _ until-offset (c .before .before .before .before .append-decimal2 .ensures)
+    let refused = begins-more what _ _ _ _ _ _ (at-message .message .ensures) (at-refusal .append .ensures) in
+    let number = begins-more _ _ _ _ _ _ _ refused (at-number .append-decimal .ensures) in
+    let until-offset = begins-more _ _ _ _ _ _ _ number (c .before .before .before .before .before .before .before .before .append2 .ensures) in
+    begins-more _ _ _ _ _ _ _ until-offset (c .before .before .before .before .append-decimal2 .ensures)
 
 message-requires : tie.Need-message-requires
 message-requires c κs = search needs
@@ -60,7 +59,7 @@ same-length : tie.Need-same-length
 same-length c = search needs
 
 returns : tie.Need-returns
-returns c = begins-more _ _ _ _ _ _ (all-but-newline (c .before .before .before)) (c .before .before .append3 .ensures)
+returns c = begins-more _ _ _ _ _ _ _ (all-but-newline (c .before .before .before)) (c .before .before .append3 .ensures)
 
 pub refusal-spec : {M : Type 1} → statement M
 refusal-spec =

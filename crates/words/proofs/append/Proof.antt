@@ -7,8 +7,8 @@ use lib.ListN.{length, length-set}
 use lib.Seq.{paste, paste-zero, paste-suc}
 use denote.Ref.{now}
 use borrow.Author.Needs.{needs}
-use Rattle.command.proofs.message.append.Statement.{statement}
-use Rattle.command.proofs.message.append.Tie as tie
+use Rattle.words.proofs.append.Statement.{statement}
+use Rattle.words.proofs.append.Tie as tie
 
 abbrev Inv-loop : tie.InvT-loop
 Inv-loop text₀ n more k i₀ text i =

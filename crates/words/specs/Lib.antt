@@ -1,0 +1,3 @@
+pub mod Message
+pub mod File
+pub mod Word
