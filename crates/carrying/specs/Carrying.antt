@@ -37,8 +37,8 @@ abbrev pub Once : List ℕ → Type 0
 Once [] = Unit {0}
 Once (u ∷ us) = (among u us ≡ false) × Once us
 
--- before the first move each block lies on its node of T, but not that of t, which is released or yet to come, and not those of the staged,
--- which are lifted out
+-- before the first move each block lies on its node of T, but not that of t, which is released, grows or is yet to come, and not those of the
+-- staged, which are lifted out
 abbrev pub liftedOut : ℕ → List ℕ → List ℕ → Lying
 liftedOut t T staged u = cond (eqb u t || among u staged) 0 (nodeAt T u)
 
@@ -59,7 +59,7 @@ pub record Plan : Type 0 where
   pub direct : List ℕ
   pub staged : List ℕ
 
--- the newcomer: t, if it has a node in T′
+-- the newcomer: t, if it has a node in T′; one that grows comes as if it had had none
 abbrev pub newcomerIn : List ℕ → ℕ → List ℕ
 newcomerIn T′ t = cond (eqb (nodeAt T′ t) 0) [] (t ∷ [])
 

@@ -1,4 +1,5 @@
--- The bounds on what changes between two layouts, for sets of nodes: at most three nodes leave with one more block, at most four with one fewer.
+-- The bounds on what changes between two layouts, for sets of nodes: at most three nodes leave with one more block, at most four with one fewer,
+-- and so at most seven with one fewer and one more.
 use mathlib.Core.Path.{_≡_, refl, sym, ap, ap₂, _∙_}
 use mathlib.Core.Bool.{Bool, true, false, not, _&&_, false≢true, _||_}
 use mathlib.Core.List.{List, [], _∷_}
@@ -16,7 +17,7 @@ use Rattle.tree.proofs.Sets.{both-left, both-right, nodes-of-in-tree}
 use Rattle.tree.proofs.Count.{passes-first, fails-second, passes-only-first}
 use Rattle.tree.proofs.Sum.{count-le-one, count-of-none}
 use Rattle.layout.specs.Layout.{layout, among, same-block}
-use Rattle.layout.specs.Change.{oneMore, missing, mostByGrant, mostByRelease}
+use Rattle.layout.specs.Change.{oneMore, missing, mostByGrant, mostByRelease, mostByGrowth}
 use Rattle.layout.specs.Set.{layoutSet}
 use Rattle.layout.specs.Leaving.{leaving}
 use Rattle.layout.proofs.Members.{same-block-eq}
@@ -120,3 +121,29 @@ grant-leaves-at-most-3 h cs x q = omega (arith, lost-at-most h (layout cs) (amon
 pub release-leaves-at-most-4 : (h : ℕ) (cs : List ℕ) (x : ℕ) → x < length cs → leaving h (layoutSet h (oneMore cs x)) (layoutSet h cs) ≤ mostByRelease
 unfolding leaving
 release-leaves-at-most-4 h cs x q = omega (arith, lost-at-most h (layout (oneMore cs x)) (among (layout cs)), release-moves-at-most-4 cs x q)
+
+-- a node of A that is not in C is not in B, or is in B and not in C
+leaving-by-way-of : (h : ℕ) (A B C : Nodes) → leaving h A C ≤ leaving h A B + leaving h B C
+unfolding leaving
+leaving-by-way-of h A B C =
+    omega (
+      arith,
+      count-mono (2 ^ suc h) (λ n. A n && not (C n)) (λ n. (A n && not (B n)) || (B n && not (C n))) (λ n. by-sets (A n) (B n) (C n)),
+      count-either (2 ^ suc h) (λ n. A n && not (B n)) (λ n. B n && not (C n)),
+    )
+  where
+    by-sets : (a b c : Bool) → (a && not c) ≡ true → ((a && not b) || (b && not c)) ≡ true
+    by-sets true true c e = e
+    by-sets true false c e = refl
+    by-sets false b c e = absurd (false≢true e)
+
+-- one goes from level x and one comes on level y: by way of the layout without either
+pub growth-leaves-at-most-7 : (h : ℕ) (cs : List ℕ) (x y : ℕ) → x < length cs → y < length cs
+    → leaving h (layoutSet h (oneMore cs x)) (layoutSet h (oneMore cs y)) ≤ mostByGrowth
+growth-leaves-at-most-7 h cs x y p q =
+    omega (
+      arith,
+      leaving-by-way-of h (layoutSet h (oneMore cs x)) (layoutSet h cs) (layoutSet h (oneMore cs y)),
+      release-leaves-at-most-4 h cs x p,
+      grant-leaves-at-most-3 h cs y q,
+    )

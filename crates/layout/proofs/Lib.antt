@@ -10,7 +10,6 @@ pub mod Safe
 pub mod Edit
 pub mod Apart
 pub mod Moves
-pub mod Ends
 pub mod Pages
 pub mod Leaving
 pub mod Theorems

@@ -1,13 +1,14 @@
 -- With one more block on a level at most three blocks leave their places, and with one fewer at most four, the one that goes among them.
--- Both bounds are met.
+-- Both bounds are met, and so is their sum when one goes and another comes.
 use mathlib.Core.Path.{_≡_, refl}
+use mathlib.Core.Bool.{true}
 use mathlib.Core.List.{List, [], _∷_, map}
 use Prim.Native.Nat.{ℕ, zero, suc, _≤_, _<_}
 use native.Mathlib.Numerals.{add-one}
 use lib.ListN.{length}
 use Rattle.tree.specs.Block.{node}
-use Rattle.layout.specs.Layout.{State, full, place, rise, remaining, layoutFrom, layout, among}
-use Rattle.layout.specs.Change.{oneMore, missing, mostByGrant, mostByRelease}
+use Rattle.layout.specs.Layout.{State, full, block, place, rise, remaining, layoutFrom, layout, among}
+use Rattle.layout.specs.Change.{oneMore, oneFewer, missing, mostByGrant, mostByRelease, mostByGrowth}
 use Rattle.layout.proofs.Edit.{Edit, done, miss, more, hits, same-list, backwards, missing-at-most}
 use Rattle.layout.proofs.Apart.{Apart, lone-in-B, lone-in-A, lone-in-both, same, Level, placed}
 use Rattle.layout.proofs.Apart.{level-with-equal-counts, level-with-one-more}
@@ -54,3 +55,19 @@ a-grant-moves-3 = refl
 pub a-release-moves-4 : missing (layout (oneMore counts 1)) (among (layout counts)) ≡ mostByRelease
 unfolding layout missing
 a-release-moves-4 = refl
+
+-- Height 9, from one block of level 1 to one of level 5. The place of the block on node 257 is in both layouts, so if that one grows, seven others
+-- have to leave theirs.
+abbrev before-growth : List ℕ
+before-growth = 3 ∷ 3 ∷ 3 ∷ 1 ∷ 3 ∷ 1 ∷ 1 ∷ 2 ∷ 0 ∷ 0 ∷ []
+
+abbrev after-growth : List ℕ
+after-growth = oneMore (oneFewer before-growth 1) 5
+
+pub a-growth-moves-7 : missing (layout before-growth) (among (layout after-growth)) ≡ mostByGrowth
+unfolding layout missing
+a-growth-moves-7 = refl
+
+pub its-place-stays : (node 9 (block 1 1) ≡ 257) × (among (layout before-growth) (block 1 1) ≡ true) × (among (layout after-growth) (block 1 1) ≡ true)
+unfolding layout
+its-place-stays = (refl, refl, refl)

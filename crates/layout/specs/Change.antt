@@ -25,3 +25,7 @@ mostByGrant = 3
 
 abbrev pub mostByRelease : ℕ
 mostByRelease = 4
+
+-- and when one goes and another comes: document 02, L5
+abbrev pub mostByGrowth : ℕ
+mostByGrowth = mostByRelease + mostByGrant

@@ -1,6 +1,6 @@
 -- Where the run of each level begins and how many blocks it has, for a program that looks at the ends of the runs alone.
 use mathlib.Core.List.{List, [], _∷_}
-use Prim.Native.Nat.{ℕ, suc, _+_, _≤_}
+use Prim.Native.Nat.{ℕ, suc}
 use Rattle.layout.specs.Layout.{State, full, start, running, place, rise}
 
 -- the first index of each level's run, from level l on, with the state there and the counts from there on
@@ -19,11 +19,3 @@ starts cs = startsFrom 0 (full 0) cs
 
 unfoldable pub runs : List ℕ → List ℕ
 runs cs = runsFrom 0 (full 0) cs
-
--- From a run of n blocks at index i on to a run of n′ blocks at index i′ on, the first index and the index past the last one
--- each go back by at most one, and on by at most one.
-pub record Near (i n i′ n′ : ℕ) : Type 0 where
-  pub begin-back : i ≤ suc i′
-  pub begin-on : i′ ≤ suc i
-  pub end-back : i + n ≤ suc (i′ + n′)
-  pub end-on : i′ + n′ ≤ suc (i + n)

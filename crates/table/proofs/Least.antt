@@ -1,17 +1,18 @@
--- The least index that is in one row and not in another. Where the two runs are near, such an index is one of four, so four tries find it.
+-- The least index from some index on that is in one row and not in another. It is one of seven, since otherwise the index before it would do too; so
+-- seven tries find it.
 use mathlib.Core.Path.{_≡_, refl, sym, ap, _∙_}
 use mathlib.Core.Bool.{Bool, true, false, not, _&&_, cond, true≢false, false≢true, and-eq-true-iff, _||_}
 use mathlib.Core.List.{List, [], _∷_}
+use mathlib.Core.List.{List·Memᴰ as In, List·Memᴰ·head as at-head, List·Memᴰ·tail as in-tail}
 use Prim.Native.Nat.{ℕ, zero, suc, _+_, _-_, _≤_, _<_}
 use native.Mathlib.Omega.{arith}
 use native.Mathlib.Decide.{ℕ-discrete, decLt}
 use borrow.Author.Tests.{ltb-true, ltb-false, leb-true, le-leb, ne-eqb, not-true}
 use lib.Dec.{eqb, ltb, leb}
 use lib.ListN.{length, getD}
-use Rattle.layout.specs.Runs.{Near}
 use Rattle.layout.specs.Rows.{no-index, upFrom}
 use Rattle.table.specs.Pairing.{keep}
-use Rattle.table.specs.Plan.{rowHolds, lastOf, onlyIn, onlyFrom, leastOnly, betterOf}
+use Rattle.table.specs.Plan.{rowHolds, after, onlyIn, onlyFrom, leastOnly, betterOf}
 use Rattle.table.specs.declared.plan.Row.{Row}
 use Rattle.table.proofs.Distinct.{at-place}
 use Rattle.table.proofs.Keep.{of-upFrom, of-keep}
@@ -56,13 +57,7 @@ kept-by p a (suc n) d e = by-test (p a) refl (kept-by p (suc a) n d (omega arith
         first-kept a (omega arith) (omega arith) f (ap (λ (m : ℕ). a ∷ keep p (upFrom (suc a) m)) left)
     by-test false f rest = later rest
 
--- ---- an index that is in one row and not in a near one
-
-data OneOfFour (v w : Row) (i : ℕ) : Type 0 where
-  at-start : i ≡ v .start → OneOfFour v w i
-  at-last : i ≡ lastOf v → OneOfFour v w i
-  at-lone : i ≡ v .lone → OneOfFour v w i
-  at-hole : i ≡ w .hole → OneOfFour v w i
+-- ---- in a row
 
 -- in the row and not its lone block: in the run
 in-run : (w : Row) (i : ℕ) → rowHolds w i ≡ true → ¬ (i ≡ w .lone) → (w .start ≤ i) × (i < w .start + w .run)
@@ -84,26 +79,7 @@ not-in-run w i e hole q = by-test (ltb i (w .start + w .run)) refl (rw (ne-eqb i
     by-test true g e′ = absurd (true≢false e′)
     by-test false g e′ = ltb-false i (w .start + w .run) g
 
--- Beside its lone block and the other's hole, only an end of its run can stick out of a near run.
-one-of-four : (v w : Row) → Near (v .start) (v .run) (w .start) (w .run) → (i : ℕ) → onlyIn v w i ≡ true → OneOfFour v w i
-one-of-four v w near i e = by-lone (ℕ-discrete i (v .lone)) (ℕ-discrete i (w .hole)) (ℕ-discrete i (v .start))
-  where
-    both-tests : (rowHolds v i ≡ true) × (not (rowHolds w i) ≡ true)
-    both-tests = and-eq-true-iff (rowHolds v i) (not (rowHolds w i)) .0 e
-
-    last : ¬ (i ≡ v .lone) → ¬ (i ≡ w .hole) → ¬ (i ≡ v .start) → i ≡ lastOf v
-    last lone hole start =
-        let inside = in-run v i (both-tests .0) lone in
-        let outside = not-in-run w i (not-true (rowHolds w i) (both-tests .1)) hole (omega arith) in
-        rw (ne-eqb (v .run) 0 (omega arith)) (omega arith)
-
-    by-lone : Dec (i ≡ v .lone) → Dec (i ≡ w .hole) → Dec (i ≡ v .start) → OneOfFour v w i
-    by-lone (yes f) h s = at-lone f
-    by-lone (no f) (yes h) s = at-hole h
-    by-lone (no f) (no h) (yes s) = at-start s
-    by-lone (no f) (no h) (no s) = at-last (last f h s)
-
--- ---- four tries
+-- ---- tries
 
 -- b is a number from a on that passes, or none
 pub record Found (p : ℕ → Bool) (a b : ℕ) : Type 0 where
@@ -141,53 +117,104 @@ module _ (p : ℕ → Bool) (a c best : ℕ) where
       by-tests true f false g u e = before
       by-tests false f t g u e = before
 
--- so the four tries find the least of all
-pub least-of-four : (v w : Row) (a : ℕ) → Near (v .start) (v .run) (w .start) (w .run) → a ≤ no-index
-    → leastOnly v w a
-    ≡ betterOf (onlyIn v w) a (w .hole)
-    (betterOf (onlyIn v w) a (v .lone) (betterOf (onlyIn v w) a (lastOf v) (betterOf (onlyIn v w) a (v .start) no-index)))
+-- the best of some candidates
+abbrev bestOf : (ℕ → Bool) → ℕ → List ℕ → ℕ
+bestOf p a [] = no-index
+bestOf p a (c ∷ cs) = betterOf p a c (bestOf p a cs)
+
+module _ (p : ℕ → Bool) (a : ℕ) where
+  best-found : a ≤ no-index → (cs : List ℕ) → Found p a (bestOf p a cs)
+  best-found fits [] = record { from = fits; fits = omega arith; passes = λ q. absurd (omega arith) }
+  best-found fits (c ∷ cs) = better-found p a c (bestOf p a cs) (best-found fits cs)
+
+  -- no candidate that passes is less
+  best-le : (x : ℕ) (cs : List ℕ) → a ≤ x → p x ≡ true → In x cs → bestOf p a cs ≤ x
+  best-le x (c ∷ cs) q e (at-head f) =
+      let s : betterOf p a c (bestOf p a cs) ≤ c = better-le-candidate p a c (bestOf p a cs) (omega arith) (ap p (sym f) ∙ e) in
+      omega arith
+  best-le x (c ∷ cs) q e (in-tail m) =
+      omega (arith, better-le-best p a c (bestOf p a cs), best-le x cs q e m)
+
+-- ---- seven tries
+
+-- what the least index from a on that is in v and not in w can be
+abbrev candidates : Row → Row → ℕ → List ℕ
+candidates v w a = w .hole ∷ after (w .lone) ∷ (w .start + w .run) ∷ after (v .hole) ∷ v .lone ∷ v .start ∷ a ∷ []
+
+-- an index of the one row that is not in the other, while the index before it is not of that kind: one of the candidates
+module _ (v w : Row) (a i : ℕ) (below : suc i < no-index) (e : onlyIn v w (suc i) ≡ true) where
+  in-v : rowHolds v (suc i) ≡ true
+  in-v = and-eq-true-iff (rowHolds v (suc i)) (not (rowHolds w (suc i))) .0 e .0
+
+  not-in-w : rowHolds w (suc i) ≡ false
+  not-in-w = not-true (rowHolds w (suc i)) (and-eq-true-iff (rowHolds v (suc i)) (not (rowHolds w (suc i))) .0 e .1)
+
+  next-after : (k : ℕ) → i ≡ k → suc i ≡ after k
+  next-after k f = sym (rw (ne-eqb k no-index (omega arith)) (omega arith))
+
+  -- the index before is not in v: then this one is lone, starts the run or comes behind the hole
+  starts-in-v : rowHolds v i ≡ false → In (suc i) (candidates v w a)
+  starts-in-v f = by-lone (ℕ-discrete (suc i) (v .lone)) (ℕ-discrete (suc i) (v .start)) (ℕ-discrete i (v .hole))
+    where
+      by-lone : Dec (suc i ≡ v .lone) → Dec (suc i ≡ v .start) → Dec (i ≡ v .hole) → In (suc i) (candidates v w a)
+      by-lone (yes g) s h = in-tail (in-tail (in-tail (in-tail (at-head g))))
+      by-lone (no g) (yes s) h = in-tail (in-tail (in-tail (in-tail (in-tail (at-head s)))))
+      by-lone (no g) (no s) (yes h) = in-tail (in-tail (in-tail (at-head (next-after (v .hole) h))))
+      by-lone (no g) (no s) (no h) =
+          let inside = in-run v (suc i) in-v g in
+          absurd (omega (arith, not-in-run v i f h (omega arith)))
+
+  -- the index before is in w: then this one is behind its lone block, its hole or the end of its run
+  ends-in-w : rowHolds w i ≡ true → In (suc i) (candidates v w a)
+  ends-in-w f = by-lone (ℕ-discrete i (w .lone)) (ℕ-discrete (suc i) (w .hole))
+    where
+      by-lone : Dec (i ≡ w .lone) → Dec (suc i ≡ w .hole) → In (suc i) (candidates v w a)
+      by-lone (yes g) h = in-tail (at-head (next-after (w .lone) g))
+      by-lone (no g) (yes h) = at-head h
+      by-lone (no g) (no h) =
+          let inside = in-run w i f g in
+          let outside = not-in-run w (suc i) not-in-w h (omega arith) in
+          let end : suc i ≡ w .start + w .run = omega arith in
+          in-tail (in-tail (at-head end))
+
+  first-is-candidate : ¬ (onlyIn v w i ≡ true) → In (suc i) (candidates v w a)
+  first-is-candidate not-before = by-rows (rowHolds v i) refl (rowHolds w i) refl
+    where
+      by-rows : (s : Bool) → rowHolds v i ≡ s → (t : Bool) → rowHolds w i ≡ t → In (suc i) (candidates v w a)
+      by-rows false f t g = starts-in-v f
+      by-rows true f true g = ends-in-w g
+      by-rows true f false g = absurd (not-before (rw (f, g)))
+
+-- so the seven tries find the least of all
+pub least-of-seven : (v w : Row) (a : ℕ) → a ≤ no-index → leastOnly v w a ≡ bestOf (onlyIn v w) a (candidates v w a)
 unfolding onlyFrom
-least-of-four v w a near fits =
-    first-is p a (no-index - a) no-index b₄ (omega arith) (found .from) (found .fits) (found .passes) before
+least-of-seven v w a fits =
+    first-is p a (no-index - a) no-index best (omega arith) (found .from) (found .fits) (found .passes) none-less
   where
     p : ℕ → Bool
     p = onlyIn v w
 
-    b₁ : ℕ
-    b₁ = betterOf p a (v .start) no-index
+    best : ℕ
+    best = bestOf p a (candidates v w a)
 
-    b₂ : ℕ
-    b₂ = betterOf p a (lastOf v) b₁
+    found : Found p a best
+    found = best-found p a fits (candidates v w a)
 
-    b₃ : ℕ
-    b₃ = betterOf p a (v .lone) b₂
+    not-tried : (x : ℕ) → a ≤ x → x < best → p x ≡ true → In x (candidates v w a) → ⊥
+    not-tried x q r e m = omega (arith, best-le p a x (candidates v w a) q e m)
 
-    b₄ : ℕ
-    b₄ = betterOf p a (w .hole) b₃
+    at-start : (x : ℕ) → x ≡ a → In x (candidates v w a)
+    at-start x e = in-tail (in-tail (in-tail (in-tail (in-tail (in-tail (at-head e))))))
 
-    found : Found p a b₄
-    found =
-        better-found p a (w .hole) b₃
-        (better-found p a (v .lone) b₂
-        (better-found p a (lastOf v) b₁
-        (better-found p a (v .start) no-index (record { from = fits; fits = omega arith; passes = λ q. absurd (omega arith) }))))
+    -- by the index before, which is before a or not of that kind either
+    past-start : (x : ℕ) → a ≤ suc x → suc x < best → p (suc x) ≡ true → (a ≤ x → ¬ (p x ≡ true)) → Dec (x < a) → ⊥
+    past-start x q r e not-before (yes s) = not-tried (suc x) q r e (at-start (suc x) (omega arith))
+    past-start x q r e not-before (no s) =
+        not-tried (suc x) q r e (first-is-candidate v w a x (omega (arith, found .fits)) e (not-before (omega arith)))
 
-    tried : (x c b : ℕ) → a ≤ x → p x ≡ true → x ≡ c → betterOf p a c b ≤ x
-    tried x c b q e f =
-        let s : betterOf p a c b ≤ c = better-le-candidate p a c b (omega arith) (sym (ap p f) ∙ e) in
-        omega arith
-
-    falls : (b₄ ≤ b₃) × (b₃ ≤ b₂) × (b₂ ≤ b₁)
-    falls = (better-le-best p a (w .hole) b₃, better-le-best p a (v .lone) b₂, better-le-best p a (lastOf v) b₁)
-
-    none-at : (x : ℕ) → a ≤ x → x < b₄ → p x ≡ true → OneOfFour v w x → ⊥
-    none-at x q r e (at-start f) = omega (arith, tried x (v .start) no-index q e f, falls)
-    none-at x q r e (at-last f) = omega (arith, tried x (lastOf v) b₁ q e f, falls)
-    none-at x q r e (at-lone f) = omega (arith, tried x (v .lone) b₂ q e f, falls)
-    none-at x q r e (at-hole f) = omega (arith, tried x (w .hole) b₃ q e f, falls)
-
-    before : (x : ℕ) → a ≤ x → x < b₄ → ¬ (p x ≡ true)
-    before x q r e = none-at x q r e (one-of-four v w near x e)
+    none-less : (x : ℕ) → a ≤ x → x < best → ¬ (p x ≡ true)
+    none-less zero q r e = not-tried zero q r e (at-start zero (omega arith))
+    none-less (suc x) q r e = past-start x q r e (λ s. none-less x s (omega arith)) (decLt x a)
 
 -- ---- the indices that are in one row and not in another
 

@@ -13,11 +13,8 @@ use lib.Seq.{getD-set-same, getD-set-other}
 use Rattle.tree.specs.Held.{Nodes}
 use Rattle.tree.proofs.Count.{equal-of-both-ways}
 use Rattle.layout.specs.Layout.{pages}
-use Rattle.layout.specs.Runs.{Near}
-use Rattle.layout.specs.Change.{oneMore}
 use Rattle.layout.specs.Set.{layoutSet}
-use Rattle.layout.specs.Rows.{startAt, runAt, rowsOf, holdsNode}
-use Rattle.layout.proofs.Ends.{runs-stay-near}
+use Rattle.layout.specs.Rows.{rowsOf, holdsNode}
 use Rattle.layout.proofs.RowsWithin.{run-in-tree, lone-in-tree}
 use Rattle.layout.proofs.Rows.{rows-hold-layout}
 use Rattle.table.specs.Table.{nodeAt, occupied, countsOf, InOrder}
@@ -26,7 +23,6 @@ use Rattle.table.specs.Owners.{ownersOf}
 use Rattle.table.specs.Plan.{planOf, moveOf, nodesBut, shiftsOf, newcomerOn, LevelWithin, Plannable, AllPlanned}
 use Rattle.table.specs.declared.plan.Planned.{Planned}
 use Rattle.table.proofs.Order.{in-order-fits, in-order-is-layout}
-use Rattle.table.proofs.Shifting.{near-turned}
 use Rattle.table.proofs.Occupied.{tenant-of, occupied-above-zero, occupied-by, occupied-within, owner-has}
 use Rattle.table.proofs.Tally.{Once}
 use Rattle.table.proofs.Owners.{owner-is-tenant}
@@ -43,15 +39,6 @@ rows-within h cs fits l q =
       run-within = run-in-tree h cs fits l q;
       lone-within = λ some. ⊎-elim (λ none. absurd (omega arith)) (λ inside. inside) (lone-in-tree h cs fits l q);
     }
-
--- with nobody given up, the nodes are those of the layout
-nodes-of-rows : (h : ℕ) (cs : List ℕ) (n : ℕ) → h ≤ 12 → nodesBut h (rowsOf cs) 0 n ≡ layoutSet h cs n
-unfolding nodesBut
-nodes-of-rows h cs n low = ap (λ t. t && not (eqb n 0)) (rows-hold-layout h cs n low) ∙ by-node n
-  where
-    by-node : (k : ℕ) → (layoutSet h cs k && not (eqb k 0)) ≡ layoutSet h cs k
-    by-node zero = refl
-    by-node (suc k) = rw (ne-eqb (suc k) 0 (omega arith)) (and-true (layoutSet h cs (suc k)))
 
 -- ---- a table with one entry struck out
 
@@ -105,11 +92,10 @@ pub record Replan (h : ℕ) (cs ds : List ℕ) (gone : ℕ) (T owners : List ℕ
   pub height : h ≤ 12
   pub old-fits : pages cs ≤ 2 ^ h
   pub new-fits : pages ds ≤ 2 ^ h
-  pub near : (l : ℕ) → Near (startAt (rowsOf cs) l) (runAt (rowsOf cs) l) (startAt (rowsOf ds) l) (runAt (rowsOf ds) l)
   pub held : (n : ℕ) → nodesBut h (rowsOf cs) gone n ≡ occupied T n
   pub owned : Owned T owners
   pub movable : Movable h (layoutSet h ds) T
-  pub few : length (movesOf h (layoutSet h ds) T) ≤ 4
+  pub few : length (movesOf h (layoutSet h ds) T) ≤ 7
 
 module _ {h : ℕ} {cs ds : List ℕ} {gone : ℕ} {T owners : List ℕ} (p : Replan h cs ds gone T owners) where
   old-nodes : nodesBut h (rowsOf cs) gone ≡ occupied T
@@ -138,7 +124,6 @@ module _ {h : ℕ} {cs ds : List ℕ} {gone : ℕ} {T owners : List ℕ} (p : Re
   plannable =
       record {
         height = p .height;
-        near = λ l q. p .near l;
         old-within = rows-within h cs (p .old-fits);
         new-within = rows-within h ds (p .new-fits);
         owned = λ n e. omega (arith, p .owned n (sym (p .held n) ∙ e));
@@ -154,47 +139,30 @@ module _ {h : ℕ} {cs ds : List ℕ} {gone : ℕ} {T owners : List ℕ} (p : Re
       same-newcomer : newcomerOn h (rowsOf cs) (rowsOf ds) gone x ≡ cond (leb x h) (newcomer h (occupied T) (layoutSet h ds) x) 0
       same-newcomer = ap₂ (λ (S N : Nodes). cond (leb x h) (newcomer h S N x) 0) old-nodes new-nodes
 
--- ---- a grant and a release
+-- ---- the plan of a call
 
 module _ (h : ℕ) (T : List ℕ) (low : h ≤ 12) (order : InOrder h T) where
   rows-of-table : (n : ℕ) → holdsNode (rowsOf (countsOf h T)) h n ≡ occupied T n
   rows-of-table n = rows-hold-layout h (countsOf h T) n low ∙ sym (in-order-is-layout h T low order n)
 
   -- the owners that the pass over the table stores
-  pub stored-owners : Owned T (ownersOf 8192 T)
+  stored-owners : Owned T (ownersOf 8192 T)
   stored-owners n e =
       let below = occupied-within h T (order .in-tree) n e .in-height in
       owner-is-tenant T n e 8192 (omega (arith, tree-below-8192 h low)) (order .once)
 
-  -- one block more on level x, for a newcomer
-  pub grant-replan : (x : ℕ) (owners : List ℕ) → Owned T owners → pages (oneMore (countsOf h T) x) ≤ 2 ^ h
-      → Movable h (layoutSet h (oneMore (countsOf h T) x)) T → length (movesOf h (layoutSet h (oneMore (countsOf h T) x)) T) ≤ 4
-      → Replan h (countsOf h T) (oneMore (countsOf h T) x) 0 T owners
-  grant-replan x owners owned fits movable few =
-      record {
-        height = low;
-        old-fits = in-order-fits h T low order;
-        new-fits = fits;
-        near = runs-stay-near (countsOf h T) x;
-        held = λ n. nodes-of-rows h (countsOf h T) n low ∙ sym (in-order-is-layout h T low order n);
-        owned = owned;
-        movable = movable;
-        few = few;
-      }
-
-  -- one block fewer on level x, tenant t's
-  pub release-replan : (x t : ℕ) (owners ds : List ℕ) → Owned T owners → oneMore ds x ≡ countsOf h T → pages ds ≤ 2 ^ h → t < length T
-      → Movable h (layoutSet h ds) (set T t 0) → length (movesOf h (layoutSet h ds) (set T t 0)) ≤ 4
-      → Replan h (countsOf h T) ds (nodeAt T t) (set T t 0) owners
+  -- tenant t is out of the way, if it held anything, and the others go into the layout of any counts that they fit in
+  pub replan : (t : ℕ) (ds : List ℕ) → t < length T → pages ds ≤ 2 ^ h
+      → Movable h (layoutSet h ds) (set T t 0) → length (movesOf h (layoutSet h ds) (set T t 0)) ≤ 7
+      → Replan h (countsOf h T) ds (nodeAt T t) (set T t 0) (ownersOf 8192 T)
   unfolding nodesBut
-  release-replan x t owners ds owned counts fits in-table movable few =
+  replan t ds in-table fits movable few =
       record {
         height = low;
         old-fits = in-order-fits h T low order;
         new-fits = fits;
-        near = λ l. near-turned (rw counts at (runs-stay-near ds x l));
         held = λ n. ap (λ b. b && not (eqb n (nodeAt T t))) (rows-of-table n) ∙ sym (struck-occupied T t (order .once) in-table n);
-        owned = struck-owned T t (order .once) in-table owners owned;
+        owned = struck-owned T t (order .once) in-table (ownersOf 8192 T) stored-owners;
         movable = movable;
         few = few;
       }

@@ -54,7 +54,6 @@ module _ {h : ℕ} {old new : Layout} {gone : ℕ} {owners : List ℕ} (p : Plan
   pub level-shiftable : Shiftable (2 ^ (h - l)) (oldRow h old gone l) (newRow new l) owners
   level-shiftable =
       record {
-        near = p .near l q;
         old-fits = omega (arith, p .old-within l q .run-within, few-nodes p l q);
         new-fits = omega (arith, p .new-within l q .run-within, few-nodes p l q);
         leaves = λ i r e.

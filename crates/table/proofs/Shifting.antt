@@ -9,7 +9,6 @@ use native.Mathlib.Omega.{arith}
 use borrow.Author.Tests.{eqb-true}
 use lib.Dec.{eqb}
 use lib.ListN.{length, getD, length-append}
-use Rattle.layout.specs.Runs.{Near}
 use Rattle.layout.specs.Rows.{no-index, upFrom}
 use Rattle.table.specs.Pairing.{keep, Shift, pair}
 use Rattle.table.specs.Plan.{rowHolds, sameRow, onlyIn, onlyFrom, leastOnly, movesIn, planOf, nodesAt, levelShifts, spareIndex, moveOf}
@@ -19,9 +18,6 @@ use Rattle.table.specs.declared.plan.Plan.{Plan}
 use Rattle.table.specs.declared.Move.{Move}
 use Rattle.table.proofs.PlanOf.{moves-in-plan-of, count-in-plan-of, made-of-its-moves}
 use Rattle.table.proofs.Least.{Found, least-found, only-none, only-cons, only-from-least, found-is-least}
-
-pub near-turned : {i n i′ n′ : ℕ} → Near i n i′ n′ → Near i′ n′ i n
-near-turned q = record { begin-back = q .begin-on; begin-on = q .begin-back; end-back = q .end-on; end-on = q .end-back }
 
 from-zero : {p : ℕ → Bool} {a b : ℕ} → Found p a b → Found p 0 b
 from-zero s = record { from = omega arith; fits = s .fits; passes = s .passes }

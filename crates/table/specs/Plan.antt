@@ -6,7 +6,6 @@ use Prim.Native.Nat.{ℕ, _+_, _-_, _^_, _≤_, _<_}
 use lib.Dec.{eqb, leb, ltb}
 use lib.ListN.{getD, length, take, replicate}
 use Rattle.tree.specs.Held.{Nodes}
-use Rattle.layout.specs.Runs.{Near}
 use Rattle.layout.specs.Rows.{no-index, startAt, runAt, loneAt, inRow, holdsNode, upFrom}
 use Rattle.layout.specs.declared.Layout.{Layout}
 use Rattle.table.specs.Pairing.{keep, Shift, pair, leavers, places, shifts, newcomer}
@@ -20,9 +19,9 @@ use Rattle.table.specs.declared.plan.Shifted.{Shifted}
 unfoldable pub rowHolds : Row → ℕ → Bool
 rowHolds w i = inRow (w .start) (w .run) (w .lone) i && not (eqb i (w .hole))
 
--- the last index of the run; its start where the run is empty
-abbrev pub lastOf : Row → ℕ
-lastOf w = cond (eqb (w .run) 0) (w .start) (w .start + (w .run - 1))
+-- the index behind another; none behind none
+abbrev pub after : ℕ → ℕ
+after i = cond (eqb i no-index) no-index (i + 1)
 
 -- two rows with the same numbers
 abbrev pub sameRow : Row → Row → Bool
@@ -52,9 +51,9 @@ movesIn p = take (p .n) (p .moves)
 abbrev pub no-move : Move
 no-move = record { tenant = 0; from = 0; to = 0; staged = 0 }
 
--- the plan of at most four moves: its entries after them hold no move
+-- the plan of at most seven moves: its entries after them hold no move
 abbrev pub planOf : List Move → Plan
-planOf ms = record { n = length ms; moves = ms ++ replicate (4 - length ms) no-move }
+planOf ms = record { n = length ms; moves = ms ++ replicate (7 - length ms) no-move }
 
 -- the nodes with the given indices on the level whose first node is b
 abbrev pub nodesAt : ℕ → List ℕ → List ℕ
@@ -72,11 +71,10 @@ spareIndex v w = getD (onlyFrom w v 0) (length (onlyFrom v w 0)) no-index
 abbrev pub moveOf : List ℕ → Shift → Move
 moveOf owners s = record { tenant = getD owners (s .from) 0 - 1; from = s .from; to = s .to; staged = 0 }
 
--- What is asked of two rows of a level whose first node is b: their runs are near, and every block of the old row has a tenant.
+-- What is asked of two rows of a level whose first node is b: their runs end below no-index, and every block of the old row has a tenant.
 pub record Shiftable (b : ℕ) (old new : Row) (owners : List ℕ) : Type 0 where
-  pub near : Near (old .start) (old .run) (new .start) (new .run)
-  pub old-fits : old .start + old .run ≤ 2 ^ 16
-  pub new-fits : new .start + new .run ≤ 2 ^ 16
+  pub old-fits : old .start + old .run < no-index
+  pub new-fits : new .start + new .run < no-index
   pub leaves : (i : ℕ) → i < no-index → rowHolds old i ≡ true → (b + i < 8192) × (0 < getD owners (b + i) 0)
   pub takes : (i : ℕ) → i < no-index → rowHolds new i ≡ true → b + i < 2 ^ 16
 
@@ -119,15 +117,13 @@ pub record LevelWithin (m : ℕ) (L : Layout) (l : ℕ) : Type 0 where
   pub run-within : startAt L l + runAt L l ≤ m
   pub lone-within : loneAt L l < no-index → loneAt L l < m
 
--- What is asked of two layouts: the runs of each level are near, both lie in the tree, every old node but the one given up has a tenant,
--- and at most four have to move.
+-- What is asked of two layouts: both lie in the tree, every old node but the one given up has a tenant, and at most seven have to move.
 pub record Plannable (h : ℕ) (old new : Layout) (gone : ℕ) (owners : List ℕ) : Type 0 where
   pub height : h ≤ 12
-  pub near : (l : ℕ) → l ≤ h → Near (startAt old l) (runAt old l) (startAt new l) (runAt new l)
   pub old-within : (l : ℕ) → l ≤ h → LevelWithin (2 ^ (h - l)) old l
   pub new-within : (l : ℕ) → l ≤ h → LevelWithin (2 ^ (h - l)) new l
   pub owned : (n : ℕ) → nodesBut h old gone n ≡ true → 0 < getD owners n 0
-  pub few : length (shiftsOf h old new gone) ≤ 4
+  pub few : length (shiftsOf h old new gone) ≤ 7
 
 -- level l's moves at the end of the plan, and the newcomer's node if l is the level x that it wants
 pub record LevelPlanned (h : ℕ) (old new : Layout) (gone l x : ℕ) (owners : List ℕ) (before after : Planned) : Type 0 where

@@ -4,9 +4,8 @@ ghost use mathlib.Core.Path.{_≡_};
 ghost use mathlib.Core.List.{[], _∷_, _++_};
 ghost use Prim.Native.Nat.{_+_, _^_, _≤_, _<_};
 ghost use lib.ListN.{length, getD};
-ghost use Rattle.layout.specs.Runs.{Near};
 ghost use Rattle.layout.specs.Rows.{no-index};
-ghost use Rattle.table.specs.Plan.{rowHolds, sameRow, lastOf, onlyIn, betterOf, leastOnly, movesIn, planOf};
+ghost use Rattle.table.specs.Plan.{rowHolds, sameRow, after as Plan·after, onlyIn, betterOf, leastOnly, movesIn, planOf};
 ghost use Rattle.table.specs.Plan.{moveOf, levelShifts, Shiftable, LevelShifted};
 ghost use Rattle.table.specs.Plan.{rowOf, indexOn, nodeOn, shiftsAt, Plannable, LevelPlanned, AllPlanned};
 use crate::Move;
@@ -48,17 +47,16 @@ impl Row {
         }
         self.hole == other.hole
     }
+}
 
-    // The last index of the run; its start where the run is empty.
-    fn last(self) -> u16
-        requires { ⌜ self .start + self .run ≤ 2 ^ 16 ⌝ }
-        ensures { λ r. ⌜ r ≡ lastOf self ⌝ }
-    {
-        if self.run == 0 {
-            return self.start;
-        }
-        self.start + (self.run - 1)
+// The index behind another; NONE behind NONE.
+fn after(index: u16) -> u16
+    ensures { λ r. ⌜ r ≡ Plan·after index ⌝ }
+{
+    if index == NONE {
+        return NONE;
     }
+    index + 1
 }
 
 // The candidate, if it is at least `from`, less than `best`, in `old` and not in `new`; else `best`.
@@ -80,22 +78,25 @@ fn better(old: Row, new: Row, from: u16, candidate: u16, best: u16) -> u16
     best
 }
 
-// The least index from `from` on that is in `old` and not in `new`; NONE if there is none.
+// The least index from `from` on that is in `old` and not in `new`; NONE if there is none. Behind an index that is not of that kind, the next one
+// is only where something of `old` begins or something of `new` ends.
 fn least(old: Row, new: Row, from: u16) -> u16
-    requires near { ⌜ Near (old .start) (old .run) (new .start) (new .run) ⌝ }
-    requires fits { ⌜ old .start + old .run ≤ 2 ^ 16 ⌝ }
+    requires { ⌜ new .start + new .run < no-index ⌝ }
     ensures { λ r. ⌜ r ≡ leastOnly old new from ⌝ }
 {
-    let first = better(old, new, from, old.start, NONE);
-    let at_ends = better(old, new, from, old.last(), first);
-    let with_lone = better(old, new, from, old.lone, at_ends);
-    better(old, new, from, new.hole, with_lone)
+    let here = better(old, new, from, from, NONE);
+    let at_start = better(old, new, from, old.start, here);
+    let at_lone = better(old, new, from, old.lone, at_start);
+    let behind_hole = better(old, new, from, after(old.hole), at_lone);
+    let behind_run = better(old, new, from, new.start + new.run, behind_hole);
+    let behind_lone = better(old, new, from, after(new.lone), behind_run);
+    better(old, new, from, new.hole, behind_lone)
 }
 
-// At most four moves, in order: the first `n` entries. The others hold zeros.
+// At most seven moves, in order: the first `n` entries. The others hold zeros.
 pub struct Plan {
     pub n: usize,
-    pub moves: [Move; 4],
+    pub moves: [Move; 7],
 }
 
 impl Plan {
@@ -111,13 +112,13 @@ impl Plan {
         };
         Plan {
             n: 0,
-            moves: [unused; 4],
+            moves: [unused; 7],
         }
     }
 
     // The plan with one move more, at the end.
     pub fn push(self, m: Move) -> Plan
-        requires { ⌜ (self .n < 4) × (self ≡ planOf (movesIn self)) ⌝ }
+        requires { ⌜ (self .n < 7) × (self ≡ planOf (movesIn self)) ⌝ }
         ensures { λ r. ⌜ r ≡ planOf (movesIn self ++ (m ∷ [])) ⌝ }
     {
         let at = self.n;
@@ -151,7 +152,7 @@ pub struct Shifted {
 // and one.
 fn shift_rows(plan: Plan, base: u16, old: Row, new: Row, owners: &[u16; NODES]) -> Shifted
     requires rows { ⌜ Shiftable base old new (now owners) ⌝ }
-    requires room { ⌜ (plan .n + length (levelShifts base old new) ≤ 4) × (plan ≡ planOf (movesIn plan)) ⌝ }
+    requires room { ⌜ (plan .n + length (levelShifts base old new) ≤ 7) × (plan ≡ planOf (movesIn plan)) ⌝ }
     ensures { λ r. ⌜ LevelShifted base old new (now (owners .entry)) plan r ⌝ }
 {
     let mut plan = plan;
@@ -168,7 +169,7 @@ fn shift_rows(plan: Plan, base: u16, old: Row, new: Row, owners: &[u16; NODES]) 
 // The same as `shift_rows`, but a level that stays as it was, as most do, is not searched.
 fn shift_level(plan: Plan, base: u16, old: Row, new: Row, owners: &[u16; NODES]) -> Shifted
     requires rows { ⌜ Shiftable base old new (now owners) ⌝ }
-    requires room { ⌜ (plan .n + length (levelShifts base old new) ≤ 4) × (plan ≡ planOf (movesIn plan)) ⌝ }
+    requires room { ⌜ (plan .n + length (levelShifts base old new) ≤ 7) × (plan ≡ planOf (movesIn plan)) ⌝ }
     ensures { λ r. ⌜ LevelShifted base old new (now (owners .entry)) plan r ⌝ }
 {
     if old.same(new) {
@@ -238,7 +239,7 @@ fn plan_level(
 ) -> Planned
     requires rows { ⌜ Plannable height old new gone (now owners) ⌝ }
     requires level { ⌜ level ≤ height ⌝ }
-    requires room { ⌜ (below .plan .n + length (shiftsAt height old new gone level) ≤ 4) × (below .plan ≡ planOf (movesIn (below .plan))) ⌝ }
+    requires room { ⌜ (below .plan .n + length (shiftsAt height old new gone level) ≤ 7) × (below .plan ≡ planOf (movesIn (below .plan))) ⌝ }
     ensures { λ r. ⌜ LevelPlanned height old new gone level wanted (now (owners .entry)) below r ⌝ }
 {
     let base = layout::power(height - level);

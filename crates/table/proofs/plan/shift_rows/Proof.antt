@@ -6,7 +6,7 @@ use borrow.Author.Tests.{ltb-true, ltb-false}
 use lib.ListN.{getD}
 use Rattle.layout.specs.Rows.{no-index}
 use Rattle.table.proofs.Least.{least-found}
-use Rattle.table.proofs.Shifting.{near-turned, Shifting, shifting-begins, left-holds, place-holds, room-left, shifting-goes-on}
+use Rattle.table.proofs.Shifting.{Shifting, shifting-begins, left-holds, place-holds, room-left, shifting-goes-on}
 use Rattle.table.proofs.Shifting.{shifting-ends}
 use Rattle.table.proofs.plan.shift_rows.Statement.{statement}
 use Rattle.table.proofs.plan.shift_rows.Tie as tie
@@ -18,10 +18,10 @@ abbrev μ-loop : tie.MeasureT-loop
 μ-loop base old new owners plan₀ i₀ j₀ plan i j = no-index - i
 
 least-requires : tie.Need-least-requires Inv-loop μ-loop
-least-requires c κs = (c .pre .0 .near, c .pre .0 .old-fits)
+least-requires c κs = c .pre .0 .new-fits
 
 least-requires-2 : tie.Need-least-requires-2 Inv-loop μ-loop
-least-requires-2 c κs = (near-turned (c .before .pre .0 .near), c .before .pre .0 .new-fits)
+least-requires-2 c κs = c .before .pre .0 .old-fits
 
 loop-holds : tie.Need-loop-holds Inv-loop μ-loop
 loop-holds c = shifting-begins _ _ _ _ _ _ _ (c .before .before .pre .1 .1) (c .before .least .ensures) (c .least2 .ensures)
@@ -64,15 +64,13 @@ add-least : tie.Need-add-least Inv-loop μ-loop
 add-least c = omega arith
 
 least-requires-3 : tie.Need-least-requires-3 Inv-loop μ-loop
-least-requires-3 c κs = let rows = start (c .before .before) .pre .0 in (rows .near, rows .old-fits)
+least-requires-3 c κs = start (c .before .before) .pre .0 .new-fits
 
 add-least-2 : tie.Need-add-least-2 Inv-loop μ-loop
 add-least-2 c = omega (arith, place-there (c .before .before .before))
 
 least-requires-4 : tie.Need-least-requires-4 Inv-loop μ-loop
-least-requires-4 c κs =
-    let rows = start (c .before .before .before) .pre .0 in
-    (near-turned (rows .near), rows .new-fits)
+least-requires-4 c κs = start (c .before .before .before) .pre .0 .old-fits
 
 loop-less : tie.Need-loop-less Inv-loop μ-loop
 loop-less c =
