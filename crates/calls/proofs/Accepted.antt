@@ -7,11 +7,11 @@ use Prim.Native.Nat.{ℕ, suc, _+_, _≤_, _<_}
 use native.Mathlib.Omega.{arith}
 use borrow.Author.Tests.{eqb-true, eqb-false, not-false}
 use lib.Dec.{eqb, ltb}
-use lib.ListN.{length, getD}
+use lib.ListN.{length, getD, set}
 use Rattle.tree.specs.Node.{level}
 use Rattle.tree.specs.Held.{Nodes, sizes, one-if}
 use Rattle.layout.specs.Set.{layoutSet}
-use Rattle.layout.specs.Change.{oneMore, oneFewer}
+use Rattle.layout.specs.Change.{oneMore}
 use Rattle.layout.proofs.Theorems.{layout-has-counts}
 use Rattle.table.specs.Table.{nodeAt, occupied, countsOf, in-order?, InOrder}
 use Rattle.table.specs.Pairing.{moved, movesOf}
@@ -21,30 +21,32 @@ use Rattle.table.specs.declared.Move.{Move}
 use Rattle.table.proofs.Occupied.{occupied-within}
 use Rattle.table.proofs.Order.{in-order-iff, in-order-counts}
 use Rattle.table.proofs.Moved.{Movable, moved-nothing, moved-level, moved-holds, moved-stays}
-use Rattle.table.proofs.Newcomer.{granted-newcomer, granted-others, newcomer-level, newcomer-above-zero}
+use Rattle.table.proofs.Newcomer.{newcomer-level, newcomer-above-zero}
 use Rattle.table.proofs.Moves.{Moves, moves-in-list, move-of, one-move-each}
 use Rattle.table.proofs.Paired.{movers-paired, movers-fill, newcomer-paired}
 use Rattle.carrying.specs.Carrying.{Workable}
 use Rattle.carrying.specs.Order.{inOrder}
 use Rattle.carrying.proofs.Moving.{Unsorted}
-use Rattle.carrying.proofs.Ordered.{in-order-entry, in-order-has, in-order-once}
+use Rattle.carrying.proofs.Ordered.{in-order-length, in-order-entry, in-order-has, in-order-once}
 use Rattle.carrying.proofs.Workable.{in-order-workable}
-use Rattle.calls.specs.Call.{Call, grant-level, grant-pages, release, tenantOf, levelFor}
-use Rattle.calls.specs.Step.{Outcome, first, check, validity, holdings, checks, granted, released, refused, step}
+use Rattle.calls.specs.Call.{Call, tenantOf}
+use Rattle.calls.specs.Step.{Outcome, first, check, validity, countsBut, holdings, checks, granted, released, refused, step}
 use Rattle.calls.specs.History.{Book}
-use Rattle.calls.specs.Demand.{Agrees, Asks, by-level, by-pages, Releases}
-use Rattle.calls.specs.Accepted.{Shifted, Settled, AfterGrant, AfterRelease, Demand2}
+use Rattle.calls.specs.Demand.{Agrees, Asks, Releases, Grows}
+use Rattle.calls.specs.Accepted.{Shifted, Settled, Placed, AfterGrant, AfterRelease, AfterGrowth, Demand2}
 use Rattle.calls.proofs.Checks.{Sound, answer-is-first, validity-numbered, not-applied, rest-zero, height-passed, length-passed}
+use Rattle.calls.proofs.OneKind.{grants-do-not-release, grants-do-not-grow, releases-do-not-grow, one-level-asked, one-level-grown, at-most-7}
 use Rattle.calls.proofs.Room.{count-one-more}
 use Rattle.calls.proofs.Given.{above-zero}
-use Rattle.calls.proofs.Kept.{Kept, level-in-counts}
+use Rattle.calls.proofs.Kept.{Kept}
 use Rattle.calls.proofs.Struck.{node-after-set, node-beside-set}
-use Rattle.calls.proofs.Granting.{grant-movable, grant-one-more, t-in-table, grant-in-order, grant-occupies, new-sizes}
+use Rattle.calls.proofs.Placing.{Coming, new-sizes, coming-movable, coming-one-more, coming-newcomer, coming-others, coming-occupies}
+use Rattle.calls.proofs.Placing.{coming-in-order}
 use Rattle.calls.proofs.Releasing.{release-movable, release-in-order, release-occupies, counts-before, level-in-fewer, fewer-counts-fit}
 use Rattle.calls.proofs.Releasing.{fewer-sizes}
-use Rattle.calls.proofs.Reported.{grant-moves-few, release-moves-few}
-use Rattle.calls.proofs.Cases.{both-zero, Granted, Released, Case, by-grant, by-release, by-refusal, case}
-use Rattle.calls.proofs.Box.{grants-do-not-release}
+use Rattle.calls.proofs.Same.{same-level-unchanged}
+use Rattle.calls.proofs.Cases.{both-zero, Granted, Released, Grown, Case, by-grant, by-release, by-growth, by-refusal, case}
+use Rattle.calls.proofs.Box.{of-grant, of-growth, Report, report}
 
 -- the book that a table in order gives
 abbrev pub bookOf : ℕ → List ℕ → Book
@@ -165,32 +167,67 @@ module _ (h : ℕ) (T : List ℕ) (c : Call) (e : step h T c .answer ≡ 0) wher
   the-sound : Sound h T
   the-sound = sound-if-accepted h T c e
 
-  the-kept : Kept h T (bookOf h T)
+  pub the-kept : Kept h T (bookOf h T)
   the-kept =
       kept-of-order h T (the-sound .height) (the-sound .entries) (in-order-iff h T (the-sound .height) .0 (the-sound .in-order))
 
+  few-moves : length (step h T c .moves) ≤ 7
+  few-moves = omega (arith, report h T (bookOf h T) the-kept c .few, at-most-7 c)
+
+  -- one that comes onto level l of S, which is T or T with its entry struck out
+  module _ {l : ℕ} {S cs : List ℕ} (C : Coming h T (tenantOf c) l S cs)
+      (outcome : step h T c ≡ granted h S (layoutSet h (oneMore cs l)) (tenantOf c) l) where
+    abbrev came : Outcome
+    came = granted h S (layoutSet h (oneMore cs l)) (tenantOf c) l
+
+    few-listed : length (movesOf h (layoutSet h (oneMore cs l)) S) ≤ 7
+    few-listed = rw (← in-order-length h (movesOf h (layoutSet h (oneMore cs l)) S)) (rw outcome at few-moves)
+
+    came-settled : Settled h (tenantOf c) T came
+    came-settled =
+        settled (coming-movable C) T (tenantOf c) (C .out) (C .beside) came (coming-others C) few-listed refl (coming-in-order C) (coming-occupies C)
+
+    came-sized : (m : ℕ) → sizes h (occupied (came .table)) m ≡ sizes h (occupied S) m + one-if (eqb m l)
+    came-sized m = ap (λ (A : Nodes). sizes h A m) (fun-ext (coming-occupies C)) ∙ new-sizes C m
+
+    came-placed : Placed h T (tenantOf c) l came
+    came-placed = record {
+      newcomer = coming-newcomer C;
+      on-level = newcomer-level (coming-movable C) (coming-one-more C);
+      a-node = newcomer-above-zero (coming-movable C) (coming-one-more C);
+      newcomer-paired = subst (λ (A : Nodes). NewcomerPaired h A (tenantOf c) T (came .table)) (sym (fun-ext (coming-occupies C)))
+          (newcomer-paired (coming-movable C) (tenantOf c) T (came .table) (C .out) (C .beside) (coming-others C) (coming-one-more C) (coming-newcomer C));
+    }
+
   after-grant : (l : ℕ) → Granted h T c l → AfterGrant h T (tenantOf c) l (step h T c)
   after-grant l g =
-      let t = tenantOf c in
-      let B = bookOf h T in
-      let K = the-kept in
-      let M = grant-movable h T B K t l (g .tenant) (g .nothing) (g .in-height) (g .fits) in
-      let G = grant-one-more h T B K t l (g .tenant) (g .nothing) (g .in-height) (g .fits) in
-      let q = t-in-table h T B K t l (g .tenant) (g .nothing) (g .in-height) (g .fits) in
-      let order = grant-in-order h T B K t l (g .tenant) (g .nothing) (g .in-height) (g .fits) in
-      let occupies = grant-occupies h T B K t l (g .tenant) (g .nothing) (g .in-height) (g .fits) in
-      let few = grant-moves-few h T l (K .height) (K .in-order) (level-in-counts h T B K l (g .in-height)) M in
-      let o : Outcome = granted h T (layoutSet h (oneMore (countsOf h T) l)) t l in
+      let C = of-grant h T (bookOf h T) the-kept c l g in
       rw (g .outcome) (record {
-        settled = settled M T t (g .nothing) (λ u ne. refl) o (granted-others M G t q (g .nothing)) (omega (arith, few)) refl order occupies;
-        sized = λ m. ap (λ (A : Nodes). sizes h A m) (fun-ext occupies) ∙ new-sizes h T B K t l (g .tenant) (g .nothing) (g .in-height) (g .fits) m;
+        settled = came-settled C (g .outcome);
+        sized = came-sized C (g .outcome);
         had-nothing = g .nothing;
-        newcomer = granted-newcomer M G t q (g .nothing);
-        on-level = newcomer-level M G;
-        a-node = newcomer-above-zero M G;
-        newcomer-paired = subst (λ (A : Nodes). NewcomerPaired h A t T (o .table)) (sym (fun-ext occupies))
-            (newcomer-paired M t T (o .table) (g .nothing) (λ u ne. refl) (granted-others M G t q (g .nothing)) G
-            (granted-newcomer M G t q (g .nothing)));
+        placed = came-placed C (g .outcome);
+      })
+
+  -- without t's block there is one fewer at its level
+  struck-sized : 0 < nodeAt T (tenantOf c) → tenantOf c < 4096
+      → (m : ℕ) → getD (countsBut h T (tenantOf c)) m 0 + one-if (eqb m (level h (nodeAt T (tenantOf c)))) ≡ sizes h (occupied T) m
+  struck-sized holds q m =
+      let t = tenantOf c in
+      let x = level h (nodeAt T t) in
+      sym (count-one-more (countsBut h T t) x (level-in-fewer h T (bookOf h T) the-kept t q holds) m)
+      ∙ ap (λ (cs : List ℕ). getD cs m 0) (counts-before h T (bookOf h T) the-kept t q holds)
+      ∙ sym (in-order-counts h T (the-kept .height) (the-kept .in-order) m)
+
+  after-growth : (l : ℕ) → Grown h T c l → AfterGrowth h T (tenantOf c) l (step h T c)
+  after-growth l g =
+      let C = of-growth h T (bookOf h T) the-kept c l g in
+      rw (g .outcome) (record {
+        settled = came-settled C (g .outcome);
+        sized = λ m. omega (arith, came-sized C (g .outcome) m, C .standing .sized m, struck-sized (g .holds) (g .tenant) m);
+        had-one = g .holds;
+        placed = came-placed C (g .outcome);
+        same-level = λ same. same-level-unchanged h T (bookOf h T) the-kept (tenantOf c) (g .tenant) (g .holds) l same C;
       })
 
   after-release : Released h T c → AfterRelease h T (tenantOf c) (step h T c)
@@ -203,20 +240,13 @@ module _ (h : ℕ) (T : List ℕ) (c : Call) (e : step h T c .answer ≡ 0) wher
       let occupies = release-occupies h T B K t (r .tenant) (r .holds) in
       let q : t < length T = rw (K .entries) (r .tenant) in
       let out = node-after-set T t 0 q in
-      let x = level h (nodeAt T t) in
-      let fewer = oneFewer (countsOf h T) x in
-      let one-fewer : (m : ℕ) → sizes h (layoutSet h fewer) m + one-if (eqb m x) ≡ sizes h (occupied T) m = λ m.
-      ap (λ (s : ℕ). s + one-if (eqb m x)) (layout-has-counts h fewer (fewer-counts-fit h T B K t (r .tenant) (r .holds)) m)
-      ∙ sym (count-one-more fewer x (level-in-fewer h T B K t (r .tenant) (r .holds)) m)
-      ∙ ap (λ (cs : List ℕ). getD cs m 0) (counts-before h T B K t (r .tenant) (r .holds))
-      ∙ sym (in-order-counts h T (K .height) (K .in-order) m) in
-      let few =
-      release-moves-few h T t x fewer (K .height) (K .in-order) (level-in-fewer h T B K t (r .tenant) (r .holds))
-      (counts-before h T B K t (r .tenant) (r .holds)) M in
-      let o : Outcome = released h T (layoutSet h fewer) t in
+      let N = layoutSet h (countsBut h T t) in
+      let has-counts = layout-has-counts h (countsBut h T t) (fewer-counts-fit h T B K t (r .tenant) (r .holds)) in
+      let few : length (movesOf h N (set T t 0)) ≤ 7 = rw (← in-order-length h (movesOf h N (set T t 0))) (rw (r .outcome) at few-moves) in
+      let o : Outcome = released h T N t in
       rw (r .outcome) (record {
-        settled = settled M T t out (node-beside-set T t 0) o (λ u ne. refl) (omega (arith, few)) refl order occupies;
-        sized = λ m. ap (λ (A : Nodes). sizes h A m + one-if (eqb m x)) (fun-ext occupies) ∙ one-fewer m;
+        settled = settled M T t out (node-beside-set T t 0) o (λ u ne. refl) few refl order occupies;
+        sized = λ m. omega (arith, ap (λ (A : Nodes). sizes h A m) (fun-ext occupies), has-counts m, struck-sized (r .holds) (r .tenant) m);
         given-up = refl;
         a-node = r .holds;
         struck-out = moved-nothing M t out;
@@ -225,19 +255,11 @@ module _ (h : ℕ) (T : List ℕ) (c : Call) (e : step h T c .answer ≡ 0) wher
             (fewer-sizes h T B K t (r .tenant) (r .holds)));
       })
 
-abbrev levelAsked : ℕ → Call → ℕ
-levelAsked h (grant-level t l m) = l
-levelAsked h (grant-pages t p m) = levelFor h p
-levelAsked h (release t m) = 0
-
-asks-level : (h : ℕ) (c : Call) (l : ℕ) → Asks h c l → levelAsked h c ≡ l
-asks-level h c l by-level = refl
-asks-level h c l by-pages = refl
-
 pub demand-2 : (h : ℕ) (T : List ℕ) (c : Call) → Demand2 h T c
 demand-2 h T c = record {
   grant = λ l a e. granted-by l a e (case h T (sound-if-accepted h T c e) c);
   release = λ r e. released-by r e (case h T (sound-if-accepted h T c e) c);
+  growth = λ l g e. grown-by l g e (case h T (sound-if-accepted h T c e) c);
 }
   where
     refused-not : (n : ℕ) → step h T c .answer ≡ 0 → step h T c ≡ refused (suc n) T → ⊥
@@ -245,12 +267,20 @@ demand-2 h T c = record {
 
     granted-by : (l : ℕ) → Asks h c l → step h T c .answer ≡ 0 → Case h T c → AfterGrant h T (tenantOf c) l (step h T c)
     granted-by l a e (by-grant k g) =
-        let same : k ≡ l = sym (asks-level h c k (g .asks)) ∙ asks-level h c l a in
-        subst (λ (j : ℕ). AfterGrant h T (tenantOf c) j (step h T c)) same (after-grant h T c e k g)
+        subst (λ (j : ℕ). AfterGrant h T (tenantOf c) j (step h T c)) (one-level-asked h c k l (g .asks) a) (after-grant h T c e k g)
     granted-by l a e (by-release r) = absurd (grants-do-not-release h c l a (r .asks))
+    granted-by l a e (by-growth k g) = absurd (grants-do-not-grow h c l k a (g .asks))
     granted-by l a e (by-refusal n o) = absurd (refused-not n e o)
 
     released-by : Releases c → step h T c .answer ≡ 0 → Case h T c → AfterRelease h T (tenantOf c) (step h T c)
     released-by r e (by-grant k g) = absurd (grants-do-not-release h c k (g .asks) r)
     released-by r e (by-release d) = after-release h T c e d
+    released-by r e (by-growth k g) = absurd (releases-do-not-grow h c k r (g .asks))
     released-by r e (by-refusal n o) = absurd (refused-not n e o)
+
+    grown-by : (l : ℕ) → Grows c l → step h T c .answer ≡ 0 → Case h T c → AfterGrowth h T (tenantOf c) l (step h T c)
+    grown-by l g e (by-grant k d) = absurd (grants-do-not-grow h c k l (d .asks) g)
+    grown-by l g e (by-release d) = absurd (releases-do-not-grow h c l (d .asks) g)
+    grown-by l g e (by-growth k d) =
+        subst (λ (j : ℕ). AfterGrowth h T (tenantOf c) j (step h T c)) (one-level-grown h c k l (d .asks) g) (after-growth h T c e k d)
+    grown-by l g e (by-refusal n o) = absurd (refused-not n e o)

@@ -2,23 +2,29 @@
 use mathlib.Core.Path.{_≡_, refl, sym, _∙_}
 use mathlib.Core.List.{List}
 use mathlib.Core.Option.{some, none}
-use Prim.Native.Nat.{ℕ, _≤_, _<_}
+use Prim.Native.Nat.{ℕ, _≤_, _<_, zero-le}
 use native.Mathlib.Omega.{arith}
-use lib.ListN.{length, length-set}
-use Rattle.layout.specs.Change.{mostByGrant, mostByRelease}
-use Rattle.calls.specs.Call.{Call, grant-level, grant-pages, release, tenantOf}
-use Rattle.calls.specs.Step.{Outcome, step}
+use lib.ListN.{length, set, length-set}
+use Rattle.tree.specs.Node.{level}
+use Rattle.layout.specs.Set.{layoutSet}
+use Rattle.layout.specs.Change.{oneMore, mostByGrant, mostByRelease, mostByGrowth}
+use Rattle.table.specs.Table.{nodeAt, countsOf}
+use Rattle.table.specs.Pairing.{movesOf}
+use Rattle.carrying.specs.Order.{inOrder}
+use Rattle.calls.specs.Call.{Call, tenantOf, leastEntries}
+use Rattle.calls.specs.Step.{Outcome, countsBut, granted, step}
 use Rattle.calls.specs.History.{Book, write, enter}
-use Rattle.calls.specs.Demand.{Asks, by-level, by-pages, Releases, releases, Box, changed}
-use Rattle.table.proofs.Newcomer.{granted-others}
+use Rattle.calls.specs.Demand.{Asks, by-level, by-pages, Releases, releases, Grows, grows, Box, changed}
 use Rattle.calls.proofs.Checks.{answer-not-valid}
+use Rattle.calls.proofs.OneKind.{grants-do-not-release, grants-do-not-grow, releases-do-not-grow}
+use Rattle.calls.proofs.OneKind.{grant-takes-4, release-takes-4, growth-takes-7}
 use Rattle.calls.proofs.Kept.{Kept, sound, within, held-is-size, only-safe-set, level-in-counts}
-use Rattle.calls.proofs.Answers.{holder-asks, other-asks, holder-releases, other-releases}
+use Rattle.calls.proofs.Answers.{holder-asks, other-asks, holder-releases, other-releases, other-grows, same-level, holder-grows}
 use Rattle.calls.proofs.Struck.{node-after-set, node-beside-set}
-use Rattle.calls.proofs.Granting.{grant-kept, grant-movable, grant-one-more, t-in-table}
-use Rattle.calls.proofs.Releasing.{release-kept, release-movable, counts-before, level-in-fewer}
-use Rattle.calls.proofs.Reported.{moves-are-changes, nothing-changes, listed-few, grant-moves-few, release-moves-few}
-use Rattle.calls.proofs.Cases.{Granted, Released, Case, by-grant, by-release, by-refusal, case}
+use Rattle.calls.proofs.Placing.{Coming, level-in-cs, coming-movable, coming-others, coming-kept, grant-coming}
+use Rattle.calls.proofs.Releasing.{release-kept, release-movable, counts-before, level-in-fewer, growth-coming}
+use Rattle.calls.proofs.Reported.{moves-are-changes, nothing-changes, listed-few, grant-moves-few, release-moves-few, growth-moves-few}
+use Rattle.calls.proofs.Cases.{Granted, Released, Grown, Case, by-grant, by-release, by-growth, by-refusal, case}
 
 entered-grant : (h : ℕ) (c : Call) (l : ℕ) → Asks h c l → (B : Book) → enter h c 0 B ≡ write (tenantOf c) (some l) B
 entered-grant h c l by-level B = refl
@@ -27,46 +33,49 @@ entered-grant h c l by-pages B = refl
 entered-release : (h : ℕ) (c : Call) → Releases c → (B : Book) → enter h c 0 B ≡ write (tenantOf c) none B
 entered-release h c releases B = refl
 
--- a grant is no release
-abbrev IsRelease : Call → Type 0
-IsRelease (grant-level t l m) = ⊥
-IsRelease (grant-pages t p m) = ⊥
-IsRelease (release t m) = Unit {0}
+entered-growth : (h : ℕ) (c : Call) (l : ℕ) → Grows c l → (B : Book) → enter h c 0 B ≡ write (tenantOf c) (some l) B
+entered-growth h c l grows B = refl
 
-is-release : (c : Call) → Releases c → IsRelease c
-is-release c releases = tt
-
-pub grants-do-not-release : (h : ℕ) (c : Call) (l : ℕ) → Asks h c l → ¬ Releases c
-grants-do-not-release h c l by-level r = is-release _ r
-grants-do-not-release h c l by-pages r = is-release _ r
-
--- what the three ways report of moves
-record Report (h : ℕ) (T : List ℕ) (c : Call) (o : Outcome) : Type 0 where
-  counted : length (o .moves) ≡ changed (tenantOf c) T (o .table)
-  few-if-grant : (l : ℕ) → Asks h c l → length (o .moves) ≤ mostByGrant
-  few-if-release : Releases c → length (o .moves) ≤ mostByRelease
+-- what each way reports of moves
+pub record Report (h : ℕ) (T : List ℕ) (c : Call) (o : Outcome) : Type 0 where
+  pub counted : length (o .moves) ≡ changed (tenantOf c) T (o .table)
+  pub few-if-grant : (l : ℕ) → Asks h c l → length (o .moves) ≤ mostByGrant
+  pub few-if-release : Releases c → length (o .moves) ≤ mostByRelease
+  pub few : length (o .moves) ≤ leastEntries c
 
 module _ (h : ℕ) (T : List ℕ) (B : Book) (K : Kept h T B) where
+  pub of-grant : (c : Call) (l : ℕ) → Granted h T c l → Coming h T (tenantOf c) l T (countsOf h T)
+  of-grant c l g = grant-coming K (tenantOf c) l (g .tenant) (g .nothing) (g .in-height) (g .fits)
+
+  pub of-growth : (c : Call) (l : ℕ) → Grown h T c l → Coming h T (tenantOf c) l (set T (tenantOf c) 0) (countsBut h T (tenantOf c))
+  of-growth c l g = growth-coming h T B K (tenantOf c) (g .tenant) (g .holds) l (g .in-height) (g .fits)
+
   pub kept-by-call : (c : Call) → Kept h (step h T c .table) (enter h c (step h T c .answer) B)
   kept-by-call c = go (case h T (sound h T B K) c)
     where
       go : Case h T c → Kept h (step h T c .table) (enter h c (step h T c .answer) B)
-      go (by-grant l g) =
-          rw (g .outcome, entered-grant h c l (g .asks) B) (grant-kept h T B K (tenantOf c) l (g .tenant) (g .nothing) (g .in-height) (g .fits))
+      go (by-grant l g) = rw (g .outcome, entered-grant h c l (g .asks) B) (coming-kept (of-grant c l g) B (λ u ne. K .agrees u))
       go (by-release r) = rw (r .outcome, entered-release h c (r .asks) B) (release-kept h T B K (tenantOf c) (r .tenant) (r .holds))
+      go (by-growth l g) = rw (g .outcome, entered-growth h c l (g .asks) B) (coming-kept (of-growth c l g) B (λ u ne. K .agrees u))
       go (by-refusal n e) = rw e K
+
+  -- who comes counts nobody else, and so does its list
+  coming-counted : {t l : ℕ} {S cs : List ℕ} (C : Coming h T t l S cs)
+      → length (inOrder h (movesOf h (layoutSet h (oneMore cs l)) S))
+      ≡ changed t T (granted h S (layoutSet h (oneMore cs l)) t l .table)
+  coming-counted {t} C =
+      moves-are-changes (coming-movable C) T _ t (C .standing .entries) (C .out) (C .beside) (coming-others C)
 
   grant-report : (c : Call) (l : ℕ) → Granted h T c l → Report h T c (step h T c)
   grant-report c l g =
-      let t = tenantOf c in
-      let M = grant-movable h T B K t l (g .tenant) (g .nothing) (g .in-height) (g .fits) in
-      let G = grant-one-more h T B K t l (g .tenant) (g .nothing) (g .in-height) (g .fits) in
-      let q = t-in-table h T B K t l (g .tenant) (g .nothing) (g .in-height) (g .fits) in
+      let C = of-grant c l g in
+      let few = listed-few h mostByGrant (movesOf h (layoutSet h (oneMore (countsOf h T) l)) T)
+      (grant-moves-few h T l (K .height) (K .in-order) (level-in-counts h T B K l (g .in-height)) (coming-movable C)) in
       rw (g .outcome) (record {
-        counted = moves-are-changes M T _ t (K .entries) (g .nothing) (λ u ne. refl) (granted-others M G t q (g .nothing));
-        few-if-grant = λ k a. listed-few h mostByGrant _
-            (grant-moves-few h T l (K .height) (K .in-order) (level-in-counts h T B K l (g .in-height)) M);
+        counted = coming-counted C;
+        few-if-grant = λ k a. few;
         few-if-release = λ r. absurd (grants-do-not-release h c l (g .asks) r);
+        few = omega (arith, few, grant-takes-4 h c l (g .asks));
       })
 
   release-report : (c : Call) → Released h T c → Report h T c (step h T c)
@@ -74,24 +83,42 @@ module _ (h : ℕ) (T : List ℕ) (B : Book) (K : Kept h T B) where
       let t = tenantOf c in
       let M = release-movable h T B K t (r .tenant) (r .holds) in
       let q : t < length T = rw (K .entries) (r .tenant) in
+      let few = listed-few h mostByRelease (movesOf h (layoutSet h (countsBut h T t)) (set T t 0))
+      (release-moves-few h T t (level h (nodeAt T t)) (countsBut h T t) (K .height) (K .in-order) (level-in-fewer h T B K t (r .tenant) (r .holds))
+      (counts-before h T B K t (r .tenant) (r .holds)) M) in
       rw (r .outcome) (record {
         counted = moves-are-changes M T _ t (length-set T t 0 ∙ K .entries) (node-after-set T t 0 q) (node-beside-set T t 0) (λ u ne. refl);
         few-if-grant = λ l a. absurd (grants-do-not-release h c l a (r .asks));
-        few-if-release = λ _. listed-few h mostByRelease _
-            (release-moves-few h T t _ _ (K .height) (K .in-order) (level-in-fewer h T B K t (r .tenant) (r .holds))
-            (counts-before h T B K t (r .tenant) (r .holds)) M);
+        few-if-release = λ _. few;
+        few = omega (arith, few, release-takes-4 c (r .asks));
       })
 
-  report : (c : Call) → Report h T c (step h T c)
+  growth-report : (c : Call) (l : ℕ) → Grown h T c l → Report h T c (step h T c)
+  growth-report c l g =
+      let t = tenantOf c in
+      let C = of-growth c l g in
+      let few = listed-few h mostByGrowth (movesOf h (layoutSet h (oneMore (countsBut h T t) l)) (set T t 0))
+      (growth-moves-few h T t (level h (nodeAt T t)) (countsBut h T t) (K .height) (K .in-order) (level-in-fewer h T B K t (g .tenant) (g .holds))
+      (counts-before h T B K t (g .tenant) (g .holds)) l (level-in-cs C) (coming-movable C)) in
+      rw (g .outcome) (record {
+        counted = coming-counted C;
+        few-if-grant = λ k a. absurd (grants-do-not-grow h c k l a (g .asks));
+        few-if-release = λ r. absurd (releases-do-not-grow h c l r (g .asks));
+        few = omega (arith, few, growth-takes-7 c l (g .asks));
+      })
+
+  pub report : (c : Call) → Report h T c (step h T c)
   report c = go (case h T (sound h T B K) c)
     where
       go : Case h T c → Report h T c (step h T c)
       go (by-grant l g) = grant-report c l g
       go (by-release r) = release-report c r
+      go (by-growth l g) = growth-report c l g
       go (by-refusal n e) = rw e (record {
         counted = sym (nothing-changes (tenantOf c) T);
         few-if-grant = λ l a. omega arith;
         few-if-release = λ r. omega arith;
+        few = zero-le;
       })
 
   pub box : Box h T B
@@ -107,7 +134,11 @@ module _ (h : ℕ) (T : List ℕ) (B : Book) (K : Kept h T B) where
     other-asks = other-asks h T B K;
     holder-releases = holder-releases h T B K;
     other-releases = other-releases h T B K;
+    other-grows = other-grows h T B K;
+    same-level = same-level h T B K;
+    holder-grows = holder-grows h T B K;
     moves = λ c. report c .counted;
     grant-moves = λ c l a e. report c .few-if-grant l a;
     release-moves = λ c r e. report c .few-if-release r;
+    growth-moves = λ c l g e. omega (arith, report c .few, growth-takes-7 c l g);
   }

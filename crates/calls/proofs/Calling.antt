@@ -4,20 +4,17 @@ use mathlib.Core.Bool.{not}
 use mathlib.Core.List.{List, _∷_, _++_}
 use Prim.Native.Nat.{ℕ, _≤_}
 use native.Mathlib.Omega.{arith}
-use borrow.Author.Tests.{ne-eqb}
 use lib.Dec.{eqb, ltb}
 use lib.ListN.{length}
-use Rattle.layout.specs.Rows.{no-level}
 use Rattle.table.specs.Table.{in-order?}
-use Rattle.calls.specs.Call.{Call, grant-level, grant-pages, release, tenantOf, levelFor}
-use Rattle.calls.specs.Step.{refused, Check, check, first, reserve-checks, validity, holdings, unless, accepted, step}
-use Rattle.calls.specs.Changes.{wantedBy, Ready, grantOn, releaseOn, changeOn}
-use Rattle.calls.specs.Demand.{by-level, by-pages}
+use Rattle.calls.specs.Call.{Call, tenantOf}
+use Rattle.calls.specs.Step.{refused, Check, check, first, reserve-checks, size-checks, validity, holdings, unless, accepted, step}
+use Rattle.calls.specs.Changes.{Ready, changeOn}
 use Rattle.calls.specs.Value.{callOf}
 use Rattle.calls.specs.declared.Call.{Call as Arguments}
-use Rattle.calls.specs.declared.Call.the-variants.{GrantLevel, GrantPages, Release}
+use Rattle.calls.specs.declared.Call.the-variants.{GrantLevel, GrantPages, Release, Grow}
 use Rattle.calls.proofs.Checks.{Numbered, validity-numbered, first-after-none, first-stands, rest-zero}
-use Rattle.calls.proofs.Checks.{height-passed, length-passed, valid-tenant, valid-level}
+use Rattle.calls.proofs.Checks.{height-passed, length-passed, valid-tenant, valid-size}
 use Rattle.calls.proofs.Opening.{refused-unless}
 
 -- 1 to 6
@@ -60,35 +57,30 @@ module _ (h : ℕ) (T : List ℕ) (c : Call) (k : ℕ) (asked : k ≡ first (arg
       tenant = valid-tenant h c valid;
     }
 
-    pub in-height : ¬ (wantedBy h c ≡ no-level) → wantedBy h c ≤ h
-    in-height = go c valid
-      where
-        go : (c : Call) → first (validity h c) ≡ 0 → ¬ (wantedBy h c ≡ no-level) → wantedBy h c ≤ h
-        go (grant-level t l m) v ne = valid-level h (grant-level t l m) l by-level v
-        go (grant-pages t p m) v ne = valid-level h (grant-pages t p m) (wantedBy h (grant-pages t p m)) by-pages v
-        go (release t m) v ne = absurd (ne refl)
+    pub sized : first (size-checks h c) ≡ 0
+    sized = valid-size h c valid
 
-    pub call-changes : changeOn h T (tenantOf c) (wantedBy h c) ≡ step h T c
-    unfolding changeOn grantOn releaseOn by-table
-    call-changes = go c valid ∙ decided
-      where
-        go : (c : Call) → first (validity h c) ≡ 0
-            → changeOn h T (tenantOf c) (wantedBy h c) ≡ unless (first (check 7 (not (in-order? h T)) ∷ holdings h T c)) T (accepted h T c)
-        go (grant-level t l m) v =
-            let low = valid-level h (grant-level t l m) l by-level v in
-            rw (ne-eqb l no-level (λ e. omega (arith, low, height-checked)))
-        go (grant-pages t p m) v =
-            let low = valid-level h (grant-pages t p m) (levelFor h p) by-pages v in
-            rw (ne-eqb (levelFor h p) no-level (λ e. omega (arith, low, height-checked)))
-        go (release t m) v = refl
+    pub call-changes : changeOn h T c ≡ step h T c
+    unfolding changeOn by-table
+    call-changes = decided
 
--- the entries lent do not matter for the tenant and what is wanted
-pub same-tenant : (c : Arguments) (m : ℕ) → tenantOf (callOf c 0) ≡ tenantOf (callOf c m)
-same-tenant (GrantLevel t l) m = refl
-same-tenant (GrantPages t p) m = refl
-same-tenant (Release t) m = refl
+-- the entries lent do not matter for what the table decides
+module _ (h : ℕ) (T : List ℕ) (m : ℕ) where
+  pub same-tenant : (c : Arguments) → tenantOf (callOf c m) ≡ tenantOf (callOf c 0)
+  same-tenant (GrantLevel t l) = refl
+  same-tenant (GrantPages t p) = refl
+  same-tenant (Release t) = refl
+  same-tenant (Grow t l) = refl
 
-pub same-wanted : (h : ℕ) (c : Arguments) (m : ℕ) → wantedBy h (callOf c 0) ≡ wantedBy h (callOf c m)
-same-wanted h (GrantLevel t l) m = refl
-same-wanted h (GrantPages t p) m = refl
-same-wanted h (Release t) m = refl
+  pub same-size : (c : Arguments) → first (size-checks h (callOf c m)) ≡ first (size-checks h (callOf c 0))
+  same-size (GrantLevel t l) = refl
+  same-size (GrantPages t p) = refl
+  same-size (Release t) = refl
+  same-size (Grow t l) = refl
+
+  pub same-change : (c : Arguments) → changeOn h T (callOf c 0) ≡ changeOn h T (callOf c m)
+  unfolding changeOn
+  same-change (GrantLevel t l) = refl
+  same-change (GrantPages t p) = refl
+  same-change (Release t) = refl
+  same-change (Grow t l) = refl

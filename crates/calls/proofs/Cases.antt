@@ -1,4 +1,4 @@
--- The three ways that a call on a sound table can go: refused, granted, released; with what its checks have shown.
+-- The ways that a call on a sound table can go: refused, granted, released, grown; with what its checks have shown.
 use mathlib.Core.Path.{_≡_, refl, sym, ap, _∙_}
 use mathlib.Core.Bool.{Bool, true, false, cond}
 use mathlib.Core.List.{List, [], _∷_, _++_}
@@ -6,16 +6,17 @@ use Prim.Native.Nat.{ℕ, zero, suc, _+_, _^_, _≤_, _<_}
 use native.Mathlib.Omega.{arith}
 use borrow.Author.Tests.{ltb-false, eqb-false}
 use lib.Dec.{eqb, ltb}
-use Rattle.tree.specs.Node.{level}
+use lib.ListN.{set}
 use Rattle.layout.specs.Layout.{pages}
 use Rattle.layout.specs.Set.{layoutSet}
-use Rattle.layout.specs.Change.{oneMore, oneFewer}
+use Rattle.layout.specs.Change.{oneMore}
 use Rattle.table.specs.Table.{nodeAt, countsOf}
-use Rattle.calls.specs.Call.{Call, grant-level, grant-pages, release, tenantOf, levelFor}
-use Rattle.calls.specs.Step.{refused, Check, check, first, validity, grant-holdings, holdings, checks}
+use Rattle.calls.specs.Call.{Call, grant-level, grant-pages, release, grow, tenantOf, levelFor}
+use Rattle.calls.specs.Step.{refused, Check, check, first, validity, countsBut, grant-holdings, grow-holdings, holdings, checks}
 use Rattle.calls.specs.Step.{granted, released, accepted, unless, step}
-use Rattle.calls.specs.Demand.{Asks, by-level, by-pages, Releases, releases}
-use Rattle.calls.proofs.Checks.{Sound, first-of-sound, Numbered, validity-numbered, not-applied, rest-zero, valid-tenant, valid-level}
+use Rattle.calls.specs.Demand.{Asks, by-level, by-pages, Releases, releases, Grows, grows}
+use Rattle.calls.proofs.Checks.{Sound, first-of-sound, Numbered, validity-numbered, not-applied, rest-zero, valid-tenant, valid-size}
+use Rattle.calls.proofs.Checks.{asked-in-height, grown-in-height}
 use Rattle.calls.proofs.Given.{above-zero}
 
 pub record Granted (h : ℕ) (T : List ℕ) (c : Call) (l : ℕ) : Type 0 where
@@ -30,11 +31,20 @@ pub record Released (h : ℕ) (T : List ℕ) (c : Call) : Type 0 where
   pub asks : Releases c
   pub tenant : tenantOf c < 4096
   pub holds : 0 < nodeAt T (tenantOf c)
-  pub outcome : step h T c ≡ released h T (layoutSet h (oneFewer (countsOf h T) (level h (nodeAt T (tenantOf c))))) (tenantOf c)
+  pub outcome : step h T c ≡ released h T (layoutSet h (countsBut h T (tenantOf c))) (tenantOf c)
+
+pub record Grown (h : ℕ) (T : List ℕ) (c : Call) (l : ℕ) : Type 0 where
+  pub asks : Grows c l
+  pub tenant : tenantOf c < 4096
+  pub holds : 0 < nodeAt T (tenantOf c)
+  pub in-height : l ≤ h
+  pub fits : pages (countsBut h T (tenantOf c)) + 2 ^ l ≤ 2 ^ h
+  pub outcome : step h T c ≡ granted h (set T (tenantOf c) 0) (layoutSet h (oneMore (countsBut h T (tenantOf c)) l)) (tenantOf c) l
 
 pub data Case (h : ℕ) (T : List ℕ) (c : Call) : Type 0 where
   by-grant : (l : ℕ) → Granted h T c l → Case h T c
   by-release : Released h T c → Case h T c
+  by-growth : (l : ℕ) → Grown h T c l → Case h T c
   by-refusal : (n : ℕ) → step h T c ≡ refused (suc n) T → Case h T c
 
 pub both-zero : (xs ys : List Check) → Numbered xs → first (xs ++ ys) ≡ 0 → (first xs ≡ 0) × (first ys ≡ 0)
@@ -47,18 +57,17 @@ both-zero (c ∷ xs) ys n e = go (c .applies) e (both-zero xs ys (n .1))
     go false z rest = rest z
 
 module _ (h : ℕ) (T : List ℕ) (s : Sound h T) where
-  abbrev room-check : ℕ → Check
-  room-check l = check 10 (ltb (2 ^ h) (pages (countsOf h T) + 2 ^ l))
+  -- what checks 8, 9 and 10 have shown, each where none follows or 10 does
+  holds-nothing : (t : ℕ) (cs : List Check) → first (check 8 (ltb 0 (nodeAt T t)) ∷ cs) ≡ 0 → nodeAt T t ≡ 0
+  holds-nothing t cs e = omega (arith, ltb-false 0 (nodeAt T t) (not-applied 8 (ltb 0 (nodeAt T t)) cs (omega arith) e))
 
-  -- what checks 8 and 10 have shown
-  holds-nothing : (t l : ℕ) → first (grant-holdings h T t l) ≡ 0 → nodeAt T t ≡ 0
-  holds-nothing t l e =
-      omega (arith, ltb-false 0 (nodeAt T t) (not-applied 8 (ltb 0 (nodeAt T t)) (room-check l ∷ []) (omega arith) e))
+  holds-one : (t : ℕ) (cs : List Check) → first (check 9 (eqb (nodeAt T t) 0) ∷ cs) ≡ 0 → 0 < nodeAt T t
+  holds-one t cs e = above-zero (nodeAt T t) (eqb-false (nodeAt T t) 0 (not-applied 9 (eqb (nodeAt T t) 0) cs (omega arith) e))
 
-  pages-fit : (t l : ℕ) → first (grant-holdings h T t l) ≡ 0 → pages (countsOf h T) + 2 ^ l ≤ 2 ^ h
-  pages-fit t l e =
-      let r = rest-zero 8 (ltb 0 (nodeAt T t)) (room-check l ∷ []) (omega arith) e in
-      ltb-false (2 ^ h) (pages (countsOf h T) + 2 ^ l) (not-applied 10 (ltb (2 ^ h) (pages (countsOf h T) + 2 ^ l)) [] (omega arith) r)
+  pages-fit : (c : Check) (held l : ℕ) → 0 < c .number → first (c ∷ check 10 (ltb (2 ^ h) (held + 2 ^ l)) ∷ []) ≡ 0 → held + 2 ^ l ≤ 2 ^ h
+  pages-fit c held l numbered e =
+      let r = rest-zero (c .number) (c .applies) (check 10 (ltb (2 ^ h) (held + 2 ^ l)) ∷ []) numbered e in
+      ltb-false (2 ^ h) (held + 2 ^ l) (not-applied 10 (ltb (2 ^ h) (held + 2 ^ l)) [] (omega arith) r)
 
   grant-case : (c : Call) (l : ℕ) → Asks h c l → first (validity h c) ≡ 0 → first (grant-holdings h T (tenantOf c) l) ≡ 0
       → step h T c ≡ granted h T (layoutSet h (oneMore (countsOf h T) l)) (tenantOf c) l → Case h T c
@@ -66,9 +75,9 @@ module _ (h : ℕ) (T : List ℕ) (s : Sound h T) where
       by-grant l (record {
         asks = a;
         tenant = valid-tenant h c v;
-        nothing = holds-nothing (tenantOf c) l e;
-        in-height = valid-level h c l a v;
-        fits = pages-fit (tenantOf c) l e;
+        nothing = holds-nothing (tenantOf c) (check 10 (ltb (2 ^ h) (pages (countsOf h T) + 2 ^ l)) ∷ []) e;
+        in-height = asked-in-height h c l a (valid-size h c v);
+        fits = pages-fit (check 8 (ltb 0 (nodeAt T (tenantOf c)))) (pages (countsOf h T)) l (omega arith) e;
         outcome = o;
       })
 
@@ -79,7 +88,16 @@ module _ (h : ℕ) (T : List ℕ) (s : Sound h T) where
       by-release (record {
         asks = releases;
         tenant = valid-tenant h (release t m) v;
-        holds = above-zero (nodeAt T t) (eqb-false (nodeAt T t) 0 (not-applied 9 (eqb (nodeAt T t) 0) [] (omega arith) e));
+        holds = holds-one t [] e;
+        outcome = o;
+      })
+  accepted-case (grow t l m) v e o =
+      by-growth l (record {
+        asks = grows;
+        tenant = valid-tenant h (grow t l m) v;
+        holds = holds-one t (check 10 (ltb (2 ^ h) (pages (countsBut h T t) + 2 ^ l)) ∷ []) e;
+        in-height = grown-in-height h (grow t l m) l grows (valid-size h (grow t l m) v);
+        fits = pages-fit (check 9 (eqb (nodeAt T t) 0)) (pages (countsBut h T t)) l (omega arith) e;
         outcome = o;
       })
 

@@ -1,12 +1,13 @@
--- The planner may be asked in every grant and release that is accepted, and what it plans is what the value-level call says.
-use mathlib.Core.Path.{_≡_, refl, ap, _∙_, subst}
+-- The planner may be asked in every call that is accepted, and what it plans is what the value-level call says.
+use mathlib.Core.Path.{_≡_, refl, sym, ap, _∙_, subst}
 use mathlib.Core.List.{List}
-use Prim.Native.Nat.{ℕ, _+_, _^_, _≤_, _<_}
+use Prim.Native.Nat.{ℕ, _+_, _-_, _^_, _≤_, _<_}
 use native.Mathlib.Nat.{le-trans}
 use native.Mathlib.Omega.{arith}
-use borrow.Author.Tests.{le-leb}
-use lib.ListN.{length, getD, set}
-use lib.Seq.{getD-take}
+use native.Mathlib.Decide.{ℕ-discrete, decLt}
+use borrow.Author.Tests.{le-leb, lt-leb}
+use lib.ListN.{length, getD, set, length-set}
+use lib.Seq.{getD-take, getD-set-same, getD-set-other, set-getD, set-out}
 use lib.Pow.{pow-mono}
 use Rattle.tree.specs.Node.{level}
 use Rattle.layout.specs.Layout.{pages}
@@ -15,29 +16,31 @@ use Rattle.layout.specs.Change.{oneMore, oneFewer}
 use Rattle.layout.specs.Rows.{no-level, rowsOf}
 use Rattle.table.specs.Table.{nodeAt, occupied, countsOf, tenantsAt, InOrder}
 use Rattle.table.specs.Owners.{ownersOf}
-use Rattle.table.specs.Pairing.{newcomer, movesOf, written}
-use Rattle.table.specs.Plan.{movesIn, planOf, AllPlanned}
+use Rattle.table.specs.Pairing.{newcomer, moved, movesOf, written}
+use Rattle.table.specs.Plan.{no-move, movesIn, planOf, Plannable, AllPlanned}
+use Rattle.table.specs.declared.Move.{Move}
 use Rattle.table.specs.declared.plan.Plan.{Plan}
 use Rattle.table.specs.declared.plan.Planned.{Planned}
 use Rattle.table.proofs.Used.{tally-le-length}
 use Rattle.table.proofs.Order.{counts-at, in-order-fits}
-use Rattle.table.specs.declared.Move.{Move}
-use Rattle.table.proofs.Moved.{moved-in-new}
+use Rattle.table.proofs.Moved.{Movable, moved-nothing, moved-in-new}
 use Rattle.table.proofs.Moves.{Moves, moves-in-list}
 use Rattle.table.proofs.Written.{written-is-moved}
 use Rattle.table.proofs.PlanOf.{moves-in-plan-of, count-in-plan-of, made-of-its-moves}
-use Rattle.table.proofs.PlanLaws.{Replan, plannable, plan-of-table, stored-owners, grant-replan, release-replan}
+use Rattle.table.proofs.PlanLaws.{Replan, plannable, plan-of-table, replan}
 use Rattle.carrying.specs.Order.{inOrder, Orderable}
-use Rattle.calls.specs.Step.{granted, released}
-use Rattle.table.specs.Plan.{no-move}
+use Rattle.calls.specs.Step.{countsBut, granted, released}
 use Rattle.calls.specs.Value.{Gives, TenantsIn}
 use Rattle.calls.specs.declared.Answer.the-variants.{Done}
-use Rattle.calls.specs.Changes.{GrantPlannable, GrantPlanned, ReleasePlannable, ReleasePlanned}
+use Rattle.calls.specs.Changes.{others, Target, given-up, placed, Resettled}
+use Rattle.calls.proofs.Given.{above-zero}
 use Rattle.calls.proofs.Kept.{Kept, level-in-counts}
+use Rattle.calls.proofs.Struck.{node-after-set}
+use Rattle.calls.proofs.Placing.{Coming, new-counts-fit, coming-movable, grant-coming}
+use Rattle.calls.proofs.Releasing.{release-movable, counts-before, level-in-fewer, fewer-counts-fit, growth-coming}
+use Rattle.calls.proofs.Reported.{grant-moves-few, release-moves-few, growth-moves-few}
 use Rattle.calls.proofs.Accepted.{bookOf, kept-of-order}
-use Rattle.calls.proofs.Granting.{grant-movable, new-counts-fit}
-use Rattle.calls.proofs.Releasing.{release-movable, counts-before, level-in-fewer, fewer-counts-fit}
-use Rattle.calls.proofs.Reported.{listed-few, grant-moves-few, release-moves-few}
+use Rattle.calls.proofs.Changing.{others-are-all, nothing-to-strike, others-of-holder}
 
 -- a reserve has at most 4,096 pages
 pages-below : (h n : ℕ) → h ≤ 12 → n ≤ 2 ^ h → n ≤ 4096
@@ -47,6 +50,15 @@ pages-below h n q p = le-trans p (pow-mono q)
 count-below : (h : ℕ) (T : List ℕ) (l : ℕ) → l < 13 → getD (countsOf h T) l 0 ≤ length T
 unfolding tenantsAt
 count-below h T l q = rw (counts-at h T l q) (tally-le-length _ T)
+
+-- one fewer on a level leaves no level with more
+fewer-at-most : (cs : List ℕ) (x l : ℕ) → getD (oneFewer cs x) l 0 ≤ getD cs l 0
+fewer-at-most cs x l = go (ℕ-discrete l x) (decLt x (length cs))
+  where
+    go : Dec (l ≡ x) → Dec (x < length cs) → getD (oneFewer cs x) l 0 ≤ getD cs l 0
+    go (yes e) (yes q) = rw (e, getD-set-same cs x (getD cs x 0 - 1) 0 q) (omega arith)
+    go (yes e) (no q) = rw (set-out cs x (getD cs x 0 - 1) (omega arith)) (omega arith)
+    go (no ne) q = rw (getD-set-other cs x l (getD cs x 0 - 1) 0 ne) (omega arith)
 
 -- a plan's tenants are in the table that it was made for
 tenants-of-plan : {h : ℕ} {cs ds : List ℕ} {gone : ℕ} {T owners : List ℕ} (p : Replan h cs ds gone T owners) (x : ℕ) (r : Planned)
@@ -81,95 +93,137 @@ plan-orderable {h} {cs} {ds} {gone} {T} {owners} p x r planned =
           (p .movable .within _ (moved-in-new (p .movable) _ (subst (λ (n : ℕ). 0 < n) (at i i<n .from-is) (at i i<n .from-above-zero))));
     }
 
-module _ (h : ℕ) (T : List ℕ) (h≤12 : h ≤ 12) (entries : length T ≡ 4096) (order : InOrder h T) where
+module _ (h : ℕ) (T : List ℕ) (h≤12 : h ≤ 12) (entries : length T ≡ 4096) (order : InOrder h T) (t : ℕ) (t<4096 : t < 4096) where
   kept : Kept h T (bookOf h T)
   kept = kept-of-order h T h≤12 entries order
 
-  -- ---- a grant
+  abbrev struck : List ℕ
+  struck = set T t 0
 
-  module _ (t l : ℕ) (t<4096 : t < 4096) (nothing : nodeAt T t ≡ 0) (l≤h : l ≤ h) (fits : pages (countsOf h T) + 2 ^ l ≤ 2 ^ h) where
-    abbrev more : List ℕ
-    more = oneMore (countsOf h T) l
+  -- a newcomer comes onto the same table, and one that grows onto the table without its entry
+  coming : (l : ℕ) → l ≤ h → pages (others h T t) + 2 ^ l ≤ 2 ^ h → Coming h T t l struck (others h T t)
+  coming l low fits = go (ℕ-discrete (nodeAt T t) 0)
+    where
+      go : Dec (nodeAt T t ≡ 0) → Coming h T t l struck (others h T t)
+      go (yes z) =
+          rw (others-are-all h T t z, nothing-to-strike h T t z) (grant-coming kept t l t<4096 z low (rw (← others-are-all h T t z) fits))
+      go (no nz) =
+          let same = others-of-holder h T t nz in
+          rw same (growth-coming h T (bookOf h T) kept t t<4096 (above-zero (nodeAt T t) nz) l low (rw (← same) fits))
 
-    grant-asked : Replan h (countsOf h T) more 0 T (ownersOf 8192 T)
-    grant-asked =
-        let B = bookOf h T in
-        let M = grant-movable h T B kept t l t<4096 nothing l≤h fits in
-        let few = grant-moves-few h T l h≤12 order (level-in-counts h T B kept l l≤h) M in
-        grant-replan h T h≤12 order l (ownersOf 8192 T) (stored-owners h T h≤12 order)
-        (new-counts-fit h T B kept t l t<4096 nothing l≤h fits) M (omega (arith, few))
+  -- few of the others have to move for it
+  coming-few : (l : ℕ) → l ≤ h → Movable h (layoutSet h (oneMore (others h T t) l)) struck
+      → length (movesOf h (layoutSet h (oneMore (others h T t) l)) struck) ≤ 7
+  coming-few l low = go (ℕ-discrete (nodeAt T t) 0)
+    where
+      in-counts : l < length (countsOf h T)
+      in-counts = level-in-counts h T (bookOf h T) kept l low
 
-    pub grant-few : length (inOrder h (movesOf h (layoutSet h more) T)) ≤ 4
-    grant-few = listed-few h 4 (movesOf h (layoutSet h more) T) (grant-asked .few)
+      go : Dec (nodeAt T t ≡ 0) → Movable h (layoutSet h (oneMore (others h T t) l)) struck
+          → length (movesOf h (layoutSet h (oneMore (others h T t) l)) struck) ≤ 7
+      go (yes z) = rw (others-are-all h T t z, nothing-to-strike h T t z) (λ M. omega (arith, grant-moves-few h T l h≤12 order in-counts M))
+      go (no nz) =
+          let holds = above-zero (nodeAt T t) nz in
+          let x = level h (nodeAt T t) in
+          let fewer = countsBut h T t in
+          rw (others-of-holder h T t nz)
+          (growth-moves-few h T t x fewer h≤12 order (level-in-fewer h T (bookOf h T) kept t t<4096 holds)
+          (counts-before h T (bookOf h T) kept t t<4096 holds) l (rw (length-set (countsOf h T) x _) in-counts))
 
-    pub grant-plannable : GrantPlannable h (countsOf h T) l (ownersOf 8192 T)
-    grant-plannable = record {
-      below = omega (arith, count-below h T l (omega arith));
-      old-fits = pages-below h (pages (countsOf h T)) h≤12 (in-order-fits h T h≤12 order);
-      new-fits = pages-below h (pages more) h≤12 (grant-asked .new-fits);
-      plannable = plannable grant-asked;
-    }
+  -- what is planned for: the others can move, few of them have to, and the counts fit
+  record Planable (ds : List ℕ) : Type 0 where
+    movable : Movable h (layoutSet h ds) struck
+    few : length (movesOf h (layoutSet h ds) struck) ≤ 7
+    fits : pages ds ≤ 2 ^ h
 
-    module _ (r : Planned) (planned : GrantPlanned h (countsOf h T) l (ownersOf 8192 T) r) where
-      pub grant-tenants : TenantsIn T (r .plan)
-      grant-tenants = tenants-of-plan grant-asked l r planned
+  planable : (ds : List ℕ) (x : ℕ) → Target h T t ds x → Planable ds
+  planable ds x (given-up holds) =
+      let B = bookOf h T in
+      let M = release-movable h T B kept t t<4096 holds in
+      let level-in = level-in-fewer h T B kept t t<4096 holds in
+      let few = release-moves-few h T t (level h (nodeAt T t)) (countsBut h T t) h≤12 order level-in (counts-before h T B kept t t<4096 holds) M in
+      rw (others-of-holder h T t (λ z. omega (arith, holds, z)))
+      (record { movable = M; few = omega (arith, few); fits = fewer-counts-fit h T B kept t t<4096 holds })
+  planable ds x (placed l low room) =
+      let C = coming l low room in
+      record { movable = coming-movable C; few = coming-few l low (coming-movable C); fits = new-counts-fit C }
 
-      pub grant-orderable : Orderable h (r .plan)
-      grant-orderable = plan-orderable grant-asked l r planned
+  module _ (ds : List ℕ) (x : ℕ) (goal : Target h T t ds x) where
+    asked : Replan h (countsOf h T) ds (nodeAt T t) struck (ownersOf 8192 T)
+    asked =
+        let p = planable ds x goal in
+        replan h T h≤12 order t ds (rw entries t<4096) (p .fits) (p .movable) (p .few)
 
-      pub grant-gives : {T′ : List ℕ} (q : Plan) → T′ ≡ written T (movesIn (r .plan)) → q ≡ planOf (inOrder h (movesIn (r .plan)))
-          → Gives (granted h T (layoutSet h more) t l) (record { answer = Done (r .node); plan = q }) (set T′ t (r .node))
-      grant-gives q done ordered =
-          let p = plan-of-table grant-asked l r planned in
-          let node : r .node ≡ newcomer h (occupied T) (layoutSet h more) l = p .1 ∙ rw (le-leb l h l≤h) in
-          let moves = moves-in-plan-of (r .plan) (movesOf h (layoutSet h more) T) (p .0) in
-          let table = done ∙ ap (written T) moves ∙ written-is-moved (grant-asked .movable) in
+    pub old-counts-fit : pages (countsOf h T) ≤ 4096
+    old-counts-fit = pages-below h (pages (countsOf h T)) h≤12 (asked .old-fits)
+
+    pub target-fits : pages ds ≤ 4096
+    target-fits = pages-below h (pages ds) h≤12 (asked .new-fits)
+
+    pub target-plannable : Plannable h (rowsOf (countsOf h T)) (rowsOf ds) (nodeAt T t) (ownersOf 8192 T)
+    target-plannable = plannable asked
+
+    module _ (r : Planned) (planned : AllPlanned h (rowsOf (countsOf h T)) (rowsOf ds) (nodeAt T t) x (ownersOf 8192 T) r) where
+      pub target-tenants : TenantsIn struck (r .plan)
+      target-tenants = tenants-of-plan asked x r planned
+
+      pub target-orderable : Orderable h (r .plan)
+      target-orderable = plan-orderable asked x r planned
+
+      pub target-resettled : {T′ : List ℕ} (q : Plan) → T′ ≡ written struck (movesIn (r .plan)) → q ≡ planOf (inOrder h (movesIn (r .plan)))
+          → Resettled h T t ds x (record { plan = q; node = r .node }) (set T′ t (r .node))
+      target-resettled q done ordered =
+          let p = plan-of-table asked x r planned in
+          let moves = moves-in-plan-of (r .plan) (movesOf h (layoutSet h ds) struck) (p .0) in
           record {
-            answer = ap Done node;
             plan = ordered ∙ ap (λ (ms : List Move). planOf (inOrder h ms)) moves;
-            table = λ i. set (table i) t (node i);
+            node = p .1;
+            table = ap (λ (S : List ℕ). set S t (r .node)) (done ∙ ap (written struck) moves ∙ written-is-moved (asked .movable));
           }
 
-  -- ---- a release
+  -- ---- what the two callers make of it
 
-  module _ (t : ℕ) (t<4096 : t < 4096) (holds : 0 < nodeAt T t) where
-    abbrev fewer : List ℕ
-    fewer = oneFewer (countsOf h T) (level h (nodeAt T t))
+  pub place-gives : (l : ℕ) → l ≤ h → (r : Planned) (T′ : List ℕ) → Resettled h T t (oneMore (others h T t) l) l r T′
+      → Gives (granted h struck (layoutSet h (oneMore (others h T t) l)) t l) (record { answer = Done (r .node); plan = r .plan }) T′
+  place-gives l low r T′ done =
+      let node : r .node ≡ newcomer h (occupied struck) (layoutSet h (oneMore (others h T t) l)) l = done .node ∙ rw (le-leb l h low) in
+      record {
+        answer = ap Done node;
+        plan = done .plan;
+        table = done .table ∙ ap (set (moved h (layoutSet h (oneMore (others h T t) l)) struck) t) node;
+      }
 
-    release-asked : Replan h (countsOf h T) fewer (nodeAt T t) (set T t 0) (ownersOf 8192 T)
-    release-asked =
-        let B = bookOf h T in
-        let x = level h (nodeAt T t) in
-        let M = release-movable h T B kept t t<4096 holds in
-        let before = counts-before h T B kept t t<4096 holds in
-        let few = release-moves-few h T t x fewer h≤12 order (level-in-fewer h T B kept t t<4096 holds) before M in
-        release-replan h T h≤12 order x t (ownersOf 8192 T) fewer (stored-owners h T h≤12 order) before
-        (fewer-counts-fit h T B kept t t<4096 holds) (rw entries t<4096) M few
+  pub release-gives : 0 < nodeAt T t → (r : Planned) (T′ : List ℕ) → Resettled h T t (others h T t) no-level r T′
+      → Gives (released h T (layoutSet h (countsBut h T t)) t) (record { answer = Done (nodeAt T t); plan = r .plan }) T′
+  release-gives holds r T′ done =
+      let M = planable (others h T t) no-level (given-up holds) .movable in
+      let N = layoutSet h (others h T t) in
+      let none : r .node ≡ 0 = done .node ∙ rw (lt-leb no-level h (omega arith)) in
+      let out : nodeAt (moved h N struck) t ≡ 0 = moved-nothing M t (node-after-set T t 0 (rw entries t<4096)) in
+      let same = others-of-holder h T t (λ z. omega (arith, holds, z)) in
+      record {
+        answer = refl;
+        plan = done .plan ∙ ap (λ (cs : List ℕ). planOf (inOrder h (movesOf h (layoutSet h cs) struck))) same;
+        table = done .table
+            ∙ ap (set (moved h N struck) t) (none ∙ sym out)
+            ∙ set-getD (moved h N struck) t 0
+            ∙ ap (λ (cs : List ℕ). moved h (layoutSet h cs) struck) same;
+      }
 
-    pub release-few : length (inOrder h (movesOf h (layoutSet h fewer) (set T t 0))) ≤ 4
-    release-few = listed-few h 4 (movesOf h (layoutSet h fewer) (set T t 0)) (release-asked .few)
+  -- the counts of the others, for which the room is asked
+  pub others-below : (l : ℕ) → l ≤ h → getD (others h T t) l 0 < 65535
+  others-below l low = go (ℕ-discrete (nodeAt T t) 0)
+    where
+      below : getD (countsOf h T) l 0 < 65535
+      below = omega (arith, count-below h T l (omega arith))
 
-    pub release-plannable : ReleasePlannable h (countsOf h T) (nodeAt T t) (ownersOf 8192 T)
-    release-plannable = record {
-      old-fits = pages-below h (pages (countsOf h T)) h≤12 (in-order-fits h T h≤12 order);
-      new-fits = pages-below h (pages fewer) h≤12 (release-asked .new-fits);
-      plannable = plannable release-asked;
-    }
+      go : Dec (nodeAt T t ≡ 0) → getD (others h T t) l 0 < 65535
+      go (yes z) = rw (others-are-all h T t z) below
+      go (no nz) = rw (others-of-holder h T t nz) (omega (arith, below, fewer-at-most (countsOf h T) (level h (nodeAt T t)) l))
 
-    module _ (r : Planned) (planned : ReleasePlanned h (countsOf h T) (nodeAt T t) (ownersOf 8192 T) r) where
-      pub release-tenants : TenantsIn (set T t 0) (r .plan)
-      release-tenants = tenants-of-plan release-asked no-level r planned
-
-      pub release-orderable : Orderable h (r .plan)
-      release-orderable = plan-orderable release-asked no-level r planned
-
-      pub release-gives : {T′ : List ℕ} (q : Plan) → T′ ≡ written (set T t 0) (movesIn (r .plan)) → q ≡ planOf (inOrder h (movesIn (r .plan)))
-          → Gives (released h T (layoutSet h fewer) t) (record { answer = Done (nodeAt T t); plan = q }) T′
-      release-gives q done ordered =
-          let p = plan-of-table release-asked no-level r planned in
-          let moves = moves-in-plan-of (r .plan) (movesOf h (layoutSet h fewer) (set T t 0)) (p .0) in
-          record {
-            answer = refl;
-            plan = ordered ∙ ap (λ (ms : List Move). planOf (inOrder h ms)) moves;
-            table = done ∙ ap (written (set T t 0)) moves ∙ written-is-moved (release-asked .movable);
-          }
+  pub others-fit : pages (others h T t) ≤ 4096
+  others-fit = go (ℕ-discrete (nodeAt T t) 0)
+    where
+      go : Dec (nodeAt T t ≡ 0) → pages (others h T t) ≤ 4096
+      go (yes z) = rw (others-are-all h T t z) (pages-below h (pages (countsOf h T)) h≤12 (in-order-fits h T h≤12 order))
+      go (no nz) = target-fits (others h T t) no-level (given-up (above-zero (nodeAt T t) nz))

@@ -1,69 +1,96 @@
--- The ways that a grant and a release with valid arguments can go.
-use mathlib.Core.Path.{_≡_, sym, subst, _∙_}
+-- The ways that a call with valid arguments can go.
+use mathlib.Core.Path.{_≡_, refl, sym, subst, ap, _∙_}
 use mathlib.Core.Bool.{true, false}
 use mathlib.Core.List.{List}
 use Prim.Native.Nat.{ℕ, _+_, _^_, _≤_, _<_}
-use native.Mathlib.Decide.{ℕ-discrete}
 use borrow.Author.Tests.{lt-ltb, le-ltb, eq-eqb, ne-eqb}
-use Rattle.tree.specs.Node.{level}
+use lib.ListN.{set}
+use lib.Seq.{set-getD}
 use Rattle.layout.specs.Layout.{pages}
-use Rattle.layout.specs.Rows.{no-level}
 use Rattle.layout.specs.Set.{layoutSet}
-use Rattle.layout.specs.Change.{oneMore, oneFewer}
+use Rattle.layout.specs.Change.{oneMore}
 use Rattle.table.specs.Table.{nodeAt, countsOf, in-order?}
-use Rattle.calls.specs.Step.{refused, granted, released}
 use Rattle.table.specs.Owners.{ownersOf}
-use Rattle.calls.specs.Changes.{Looked, grantOn, releaseOn, changeOn}
+use Rattle.calls.specs.Call.{Call, grant-level, grant-pages, release, grow, levelFor}
+use Rattle.calls.specs.Step.{countsBut, refused, granted, released}
+use Rattle.calls.specs.Changes.{Looked, without, others, placeOn, grantOn, releaseOn, growOn, changeOn}
 
 module _ (h : ℕ) (T : List ℕ) (t : ℕ) where
+  -- ---- the others' counts
+
+  pub others-of-holder : ¬ (nodeAt T t ≡ 0) → others h T t ≡ countsBut h T t
+  unfolding without
+  others-of-holder holds = rw (ne-eqb (nodeAt T t) 0 holds)
+
+  module _ (nothing : nodeAt T t ≡ 0) where
+    pub others-are-all : others h T t ≡ countsOf h T
+    unfolding without
+    others-are-all = rw (eq-eqb (nodeAt T t) 0 nothing)
+
+    pub nothing-to-strike : set T t 0 ≡ T
+    nothing-to-strike = ap (set T t) (sym nothing) ∙ set-getD T t 0
+
+  -- ---- a block for a newcomer, and for one that grows
+
   module _ (l : ℕ) where
-    pub grant-disordered : in-order? h T ≡ false → refused 7 T ≡ grantOn h T t l
+    pub place-without-room : 2 ^ h < pages (others h T t) + 2 ^ l → refused 10 T ≡ placeOn h T t l
+    unfolding placeOn
+    place-without-room p = rw (lt-ltb (2 ^ h) (pages (others h T t) + 2 ^ l) p)
+
+    pub place-with-room : pages (others h T t) + 2 ^ l ≤ 2 ^ h
+        → granted h (set T t 0) (layoutSet h (oneMore (others h T t) l)) t l ≡ placeOn h T t l
+    unfolding placeOn
+    place-with-room p = rw (le-ltb (2 ^ h) (pages (others h T t) + 2 ^ l) p)
+
+    pub grant-to-holder : 0 < nodeAt T t → refused 8 T ≡ grantOn h T t l
     unfolding grantOn
-    grant-disordered e = rw e
+    grant-to-holder p = rw (lt-ltb 0 (nodeAt T t) p)
 
-    module _ (e : in-order? h T ≡ true) where
-      pub grant-to-holder : 0 < nodeAt T t → refused 8 T ≡ grantOn h T t l
-      unfolding grantOn
-      grant-to-holder p = rw (e, lt-ltb 0 (nodeAt T t) p)
+    pub grant-places : nodeAt T t ≡ 0 → placeOn h T t l ≡ grantOn h T t l
+    unfolding placeOn grantOn
+    grant-places z = rw (others-are-all z, nothing-to-strike z, z)
 
-      module _ (nothing : nodeAt T t ≡ 0) where
-        pub grant-without-room : 2 ^ h < pages (countsOf h T) + 2 ^ l → refused 10 T ≡ grantOn h T t l
-        unfolding grantOn
-        grant-without-room p = rw (e, nothing, lt-ltb (2 ^ h) (pages (countsOf h T) + 2 ^ l) p)
+    pub grow-of-nobody : nodeAt T t ≡ 0 → refused 9 T ≡ growOn h T t l
+    unfolding growOn
+    grow-of-nobody z = rw z
 
-        pub grant-with-room : pages (countsOf h T) + 2 ^ l ≤ 2 ^ h → granted h T (layoutSet h (oneMore (countsOf h T) l)) t l ≡ grantOn h T t l
-        unfolding grantOn
-        grant-with-room p = rw (e, nothing, le-ltb (2 ^ h) (pages (countsOf h T) + 2 ^ l) p)
+    pub grow-places : ¬ (nodeAt T t ≡ 0) → placeOn h T t l ≡ growOn h T t l
+    unfolding placeOn growOn
+    grow-places p = rw (others-of-holder p, ne-eqb (nodeAt T t) 0 p)
 
-  pub release-disordered : in-order? h T ≡ false → refused 7 T ≡ releaseOn h T t
+  -- ---- a release
+
+  pub release-by-nobody : nodeAt T t ≡ 0 → refused 9 T ≡ releaseOn h T t
   unfolding releaseOn
-  release-disordered e = rw e
+  release-by-nobody z = rw z
 
-  module _ (e : in-order? h T ≡ true) where
-    pub release-by-nobody : nodeAt T t ≡ 0 → refused 9 T ≡ releaseOn h T t
-    unfolding releaseOn
-    release-by-nobody z = rw (e, z)
+  pub release-by-holder : ¬ (nodeAt T t ≡ 0) → released h T (layoutSet h (countsBut h T t)) t ≡ releaseOn h T t
+  unfolding releaseOn
+  release-by-holder p = rw (ne-eqb (nodeAt T t) 0 p)
 
-    pub release-by-holder : ¬ (nodeAt T t ≡ 0)
-        → released h T (layoutSet h (oneFewer (countsOf h T) (level h (nodeAt T t)))) t ≡ releaseOn h T t
-    unfolding releaseOn
-    release-by-holder p = rw (e, ne-eqb (nodeAt T t) 0 p)
+-- ---- what the table decides, by the kind of call
 
-  -- by the level wanted
-  pub change-releases : (w : ℕ) → w ≡ no-level → releaseOn h T t ≡ changeOn h T t w
+module _ (h : ℕ) (T : List ℕ) where
+  pub change-disordered : (c : Call) → in-order? h T ≡ false → refused 7 T ≡ changeOn h T c
   unfolding changeOn
-  change-releases w e = rw (eq-eqb w no-level e)
+  change-disordered c e = rw e
 
-  pub change-grants : (w : ℕ) → ¬ (w ≡ no-level) → grantOn h T t w ≡ changeOn h T t w
-  unfolding changeOn
-  change-grants w ne = rw (ne-eqb w no-level ne)
+  module _ (e : in-order? h T ≡ true) (t : ℕ) where
+    pub change-grants : (l : ℕ) → grantOn h T t l ≡ changeOn h T (grant-level t l 0)
+    unfolding changeOn grantOn
+    change-grants l = rw e
 
-  pub change-disordered : (w : ℕ) → in-order? h T ≡ false → refused 7 T ≡ changeOn h T t w
-  change-disordered w e = go (ℕ-discrete w no-level)
-    where
-      go : Dec (w ≡ no-level) → refused 7 T ≡ changeOn h T t w
-      go (yes p) = release-disordered e ∙ change-releases w p
-      go (no ne) = grant-disordered w e ∙ change-grants w ne
+    pub change-grants-pages : (p : ℕ) → grantOn h T t (levelFor h p) ≡ changeOn h T (grant-pages t p 0)
+    unfolding changeOn grantOn
+    change-grants-pages p = rw e
+
+    pub change-releases : releaseOn h T t ≡ changeOn h T (release t 0)
+    unfolding changeOn releaseOn
+    change-releases = rw e
+
+    pub change-grows : (l : ℕ) → growOn h T t l ≡ changeOn h T (grow t l 0)
+    unfolding changeOn growOn
+    change-grows l = rw e
 
 -- what holds of the table's own counts and owners holds of those that were looked up, and the other way round
 module _ {h : ℕ} {T cs o : List ℕ} (P : List ℕ → List ℕ → Type 0) (l : Looked h T cs o) where

@@ -8,13 +8,13 @@ use borrow.Author.Tests.{ltb-false, leb-false, eqb-true, eq-eqb, le-ltb, not-fal
 use lib.Dec.{eqb, ltb, leb}
 use lib.ListN.{length}
 use Rattle.table.specs.Table.{in-order?}
-use Rattle.calls.specs.Call.{Call, grant-level, grant-pages, release, tenantOf}
+use Rattle.calls.specs.Call.{Call, grant-level, grant-pages, release, grow, tenantOf, entriesOf, leastEntries}
 use Rattle.calls.specs.Step.{Check, check, first, length-checks, list-checks, pages-check, size-checks, validity, holdings, checks}
 use Rattle.calls.specs.Step.{unless, accepted, step}
-use Rattle.calls.specs.Demand.{Asks, by-level, by-pages}
+use Rattle.calls.specs.Demand.{Asks, by-level, by-pages, Grows, grows}
 use Rattle.calls.specs.Value.{callOf}
 use Rattle.calls.specs.declared.Call.{Call as Arguments}
-use Rattle.calls.specs.declared.Call.the-variants.{GrantLevel, GrantPages, Release}
+use Rattle.calls.specs.declared.Call.the-variants.{GrantLevel, GrantPages, Release, Grow}
 use Rattle.calls.proofs.Level.{level-for-le}
 
 -- on a table in order of 4,096 entries, at a height up to 12, only 3 to 6 and 8 to 10 can apply
@@ -27,6 +27,7 @@ pub first-of-sound : (h : ℕ) (T : List ℕ) (c : Call) → Sound h T → first
 first-of-sound h T (grant-level t l m) s = rw (le-ltb 12 h (s .height), eq-eqb (length T) 4096 (s .entries), s .in-order)
 first-of-sound h T (grant-pages t p m) s = rw (le-ltb 12 h (s .height), eq-eqb (length T) 4096 (s .entries), s .in-order)
 first-of-sound h T (release t m) s = rw (le-ltb 12 h (s .height), eq-eqb (length T) 4096 (s .entries), s .in-order)
+first-of-sound h T (grow t l m) s = rw (le-ltb 12 h (s .height), eq-eqb (length T) 4096 (s .entries), s .in-order)
 
 -- a refusal's number is not 0
 abbrev pub Numbered : List Check → Type 0
@@ -51,17 +52,18 @@ first-stands (c ∷ xs) ys ne = go (c .applies) ne (first-stands xs ys)
     go true z rest = refl
     go false z rest = rest z
 
--- 1 to 4, of a table with n entries
-abbrev pub four : ℕ → ℕ → ℕ → ℕ → List Check
-four h n t m = length-checks h n ++ list-checks t m
+-- 1 to 4, of a table with n entries and a call that takes k move entries or more
+abbrev pub four : ℕ → ℕ → ℕ → ℕ → ℕ → List Check
+four h n k t m = length-checks h n ++ list-checks k t m
 
-pub four-numbered : (h n t m : ℕ) → Numbered (four h n t m)
-four-numbered h n t m = (omega arith, (omega arith, (omega arith, (omega arith, tt))))
+pub four-numbered : (h n k t m : ℕ) → Numbered (four h n k t m)
+four-numbered h n k t m = (omega arith, (omega arith, (omega arith, (omega arith, tt))))
 
 pub validity-numbered : (h : ℕ) (c : Call) → Numbered (validity h c)
 validity-numbered h (grant-level t l m) = (omega arith, (omega arith, (omega arith, tt)))
 validity-numbered h (grant-pages t p m) = (omega arith, (omega arith, (omega arith, tt)))
 validity-numbered h (release t m) = (omega arith, (omega arith, tt))
+validity-numbered h (grow t l m) = (omega arith, (omega arith, (omega arith, tt)))
 
 -- a call answers the number of the first check that applies, or 0
 pub answer-is-first : (h : ℕ) (T : List ℕ) (c : Call) → step h T c .answer ≡ first (checks h T c)
@@ -72,6 +74,7 @@ answer-is-first h T c = go (first (checks h T c)) c
     go zero (grant-level t l m) = refl
     go zero (grant-pages t p m) = refl
     go zero (release t m) = refl
+    go zero (grow t l m) = refl
     go (suc n) c = refl
 
 module _ (h : ℕ) (T : List ℕ) (s : Sound h T) where
@@ -97,29 +100,41 @@ pub length-passed : (T : List ℕ) (cs : List Check) → first (check 2 (not (eq
 length-passed T cs e =
     eqb-true (length T) 4096 (not-false (eqb (length T) 4096) (not-applied 2 (not (eqb (length T) 4096)) cs (omega arith) e))
 
-tenant-below : (t m : ℕ) (cs : List Check) → first (check 3 (ltb m 4) ∷ check 4 (ltb 4095 t) ∷ cs) ≡ 0 → t < 4096
-tenant-below t m cs e =
-    let r = rest-zero 3 (ltb m 4) (check 4 (ltb 4095 t) ∷ cs) (omega arith) e in
-    omega (arith, ltb-false 4095 t (not-applied 4 (ltb 4095 t) cs (omega arith) r))
+-- a valid call has passed 3, 4, and 5 or 6
+pub valid-entries : (h : ℕ) (c : Call) → first (validity h c) ≡ 0 → leastEntries c ≤ entriesOf c
+valid-entries h c e =
+    let k = leastEntries c in
+    let m = entriesOf c in
+    ltb-false m k (not-applied 3 (ltb m k) (check 4 (ltb 4095 (tenantOf c)) ∷ size-checks h c) (omega arith) e)
+
+past-entries : (h : ℕ) (c : Call) → first (validity h c) ≡ 0 → first (check 4 (ltb 4095 (tenantOf c)) ∷ size-checks h c) ≡ 0
+past-entries h c e =
+    rest-zero 3 (ltb (entriesOf c) (leastEntries c)) (check 4 (ltb 4095 (tenantOf c)) ∷ size-checks h c) (omega arith) e
 
 pub valid-tenant : (h : ℕ) (c : Call) → first (validity h c) ≡ 0 → tenantOf c < 4096
-valid-tenant h (grant-level t l m) v = tenant-below t m (check 5 (ltb h l) ∷ []) v
-valid-tenant h (grant-pages t p m) v = tenant-below t m (pages-check h p ∷ []) v
-valid-tenant h (release t m) v = tenant-below t m [] v
+valid-tenant h c e =
+    let t = tenantOf c in
+    omega (arith, ltb-false 4095 t (not-applied 4 (ltb 4095 t) (size-checks h c) (omega arith) (past-entries h c e)))
 
-size-check : (t m : ℕ) (c : Check) → first (list-checks t m ++ c ∷ []) ≡ 0 → first (c ∷ []) ≡ 0
-size-check t m c e =
-    let r = rest-zero 3 (ltb m 4) (check 4 (ltb 4095 t) ∷ c ∷ []) (omega arith) e in
-    rest-zero 4 (ltb 4095 t) (c ∷ []) (omega arith) r
+pub valid-size : (h : ℕ) (c : Call) → first (validity h c) ≡ 0 → first (size-checks h c) ≡ 0
+valid-size h c e = rest-zero 4 (ltb 4095 (tenantOf c)) (size-checks h c) (omega arith) (past-entries h c e)
 
-pub valid-level : (h : ℕ) (c : Call) (l : ℕ) → Asks h c l → first (validity h c) ≡ 0 → l ≤ h
-valid-level h c l (by-level {t = t} {l = k} {m = m}) v =
-    ltb-false h k (not-applied 5 (ltb h k) [] (omega arith) (size-check t m (check 5 (ltb h k)) v))
-valid-level h c l (by-pages {t = t} {p = p} {m = m}) v =
-    level-for-le h p (leb-false (2 ^ h) p (not-applied 6 (leb (2 ^ h) p) [] (omega arith) (size-check t m (pages-check h p) v)))
+-- what is asked for then lies in the tree
+level-in-height : (h l : ℕ) → first (check 5 (ltb h l) ∷ []) ≡ 0 → l ≤ h
+level-in-height h l e = ltb-false h l (not-applied 5 (ltb h l) [] (omega arith) e)
+
+pub asked-in-height : (h : ℕ) (c : Call) (l : ℕ) → Asks h c l → first (size-checks h c) ≡ 0 → l ≤ h
+asked-in-height h c l (by-level {t = t} {l = k} {m = m}) e = level-in-height h k e
+asked-in-height h c l (by-pages {t = t} {p = p} {m = m}) e =
+    level-for-le h p (leb-false (2 ^ h) p (not-applied 6 (leb (2 ^ h) p) [] (omega arith) e))
+
+pub grown-in-height : (h : ℕ) (c : Call) (l : ℕ) → Grows c l → first (size-checks h c) ≡ 0 → l ≤ h
+grown-in-height h c l (grows {t = t} {l = k} {m = m}) e = level-in-height h k e
 
 -- 3 to 6 are 3 and 4, and then what is asked for
-pub validity-parts : (h : ℕ) (c : Arguments) (m : ℕ) → validity h (callOf c m) ≡ list-checks (tenantOf (callOf c 0)) m ++ size-checks h (callOf c 0)
+pub validity-parts : (h : ℕ) (c : Arguments) (m : ℕ)
+    → validity h (callOf c m) ≡ list-checks (leastEntries (callOf c 0)) (tenantOf (callOf c 0)) m ++ size-checks h (callOf c 0)
 validity-parts h (GrantLevel t l) m = refl
 validity-parts h (GrantPages t p) m = refl
 validity-parts h (Release t) m = refl
+validity-parts h (Grow t l) m = refl

@@ -4,7 +4,7 @@ use mathlib.Core.List.{List, []}
 use Prim.Native.Nat.{ℕ, zero, suc, _<_}
 use native.Mathlib.Omega.{arith}
 use Rattle.table.proofs.PlanOf.{moves-in-plan-of}
-use Rattle.calls.specs.Call.{Call, grant-level, grant-pages, release}
+use Rattle.calls.specs.Call.{Call, grant-level, grant-pages, release, grow}
 use Rattle.calls.specs.Step.{Outcome, refused, first, checks, reserve-checks, accepted, unless, step, open-reserve}
 use Rattle.calls.specs.Value.{numberOf, nodeIn, answerOf, Gives, answered, valueOf}
 use Rattle.calls.specs.declared.Answer.{Answer}
@@ -54,6 +54,7 @@ accepted-answer : (h : ℕ) (T : List ℕ) (c : Call) → accepted h T c .answer
 accepted-answer h T (grant-level t l m) = refl
 accepted-answer h T (grant-pages t p m) = refl
 accepted-answer h T (release t m) = refl
+accepted-answer h T (grow t l m) = refl
 
 pub step-refuses : (h : ℕ) (T : List ℕ) (c : Call) → ¬ (step h T c .answer ≡ 0) → step h T c ≡ refused (first (checks h T c)) T
 unfolding step

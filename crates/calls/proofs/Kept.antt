@@ -3,25 +3,23 @@ use mathlib.Core.Path.{_≡_, sym, ap, _∙_}
 use mathlib.Core.Bool.{_&&_}
 use mathlib.Core.List.{List}
 use mathlib.Core.Option.{Option, some, none}
-use Prim.Native.Nat.{ℕ, _+_, _^_, _≤_, _<_}
+use Prim.Native.Nat.{ℕ, _^_, _≤_, _<_}
 use native.Mathlib.Omega.{arith}
 use borrow.Author.Tests.{lt-ltb}
 use lib.Dec.{eqb, ltb}
 use lib.ListN.{length, getD}
 use Rattle.tree.specs.Node.{level}
-use Rattle.tree.specs.Held.{Nodes, Within, Legal, Safe, one-if, sizes}
+use Rattle.tree.specs.Held.{Nodes, Within, Legal, Safe, sizes}
 use Rattle.tree.proofs.Sum.{count-cong}
 use Rattle.layout.specs.Layout.{pages}
 use Rattle.layout.specs.Set.{layoutSet}
-use Rattle.layout.specs.Change.{oneMore}
 use Rattle.layout.proofs.Theorems.{layout-in-tree, layout-is-legal, layout-has-counts, legal-set-fits, safe-set-is-layout}
 use Rattle.table.specs.Table.{nodeAt, occupied, InOrder, tenantsAt, countsOf}
 use Rattle.table.proofs.Tally.{tally-by-tenants}
 use Rattle.table.proofs.Occupied.{occupied-within}
 use Rattle.table.proofs.Order.{counts-length, tenants-are-sizes, in-order-counts, in-order-is-layout, in-order-iff}
 use Rattle.calls.specs.History.{Book, at-level, held}
-use Rattle.calls.specs.Demand.{Agrees, withOne, NoPlacement}
-use Rattle.calls.proofs.Room.{pages-one-more, count-one-more}
+use Rattle.calls.specs.Demand.{Agrees, NoLegalSet}
 use Rattle.calls.proofs.Checks.{Sound}
 
 pub record Kept (h : ℕ) (T : List ℕ) (B : Book) : Type 0 where
@@ -58,23 +56,16 @@ module _ (h : ℕ) (T : List ℕ) (B : Book) (K : Kept h T B) where
       safe-set-is-layout h (countsOf h T) A w l s (λ m. e m ∙ held-is-count m) n
       ∙ sym (in-order-is-layout h T (K .height) (K .in-order) n)
 
-  module _ (l : ℕ) (l≤h : l ≤ h) where
-    pub level-in-counts : l < length (countsOf h T)
-    level-in-counts = rw (counts-length h T) (omega (arith, K .height))
+  pub level-in-counts : (l : ℕ) → l ≤ h → l < length (countsOf h T)
+  level-in-counts l l≤h = rw (counts-length h T) (omega (arith, K .height))
 
-    one-more-sizes : (m : ℕ) → withOne B l m ≡ getD (oneMore (countsOf h T) l) m 0
-    one-more-sizes m = ap (λ (c : ℕ). c + one-if (eqb m l)) (held-is-count m) ∙ sym (count-one-more (countsOf h T) l level-in-counts m)
+-- ---- sets with given sizes
 
-    pub no-room-no-placement : 2 ^ h < pages (countsOf h T) + 2 ^ l → NoPlacement h B l
-    no-room-no-placement over A w e legal =
-        omega (
-          arith,
-          pages-one-more (countsOf h T) l level-in-counts,
-          legal-set-fits h (oneMore (countsOf h T) l) A w legal (λ m. e m ∙ one-more-sizes m),
-        )
+-- sizes with more pages than the reserve has no legal set has, and all others the layout has
+module _ (h : ℕ) (cs : List ℕ) (sized : ℕ → ℕ) (same : (m : ℕ) → sized m ≡ getD cs m 0) where
+  pub no-room-no-set : 2 ^ h < pages cs → NoLegalSet h sized
+  no-room-no-set over A w e legal = omega (arith, legal-set-fits h cs A w legal (λ m. e m ∙ same m))
 
-    pub room-placement : pages (countsOf h T) + 2 ^ l ≤ 2 ^ h → ¬ NoPlacement h B l
-    room-placement fits none-legal =
-        let cs = oneMore (countsOf h T) l in
-        let f : pages cs ≤ 2 ^ h = rw (pages-one-more (countsOf h T) l level-in-counts) fits in
-        none-legal (layoutSet h cs) (layout-in-tree h cs) (λ m. layout-has-counts h cs f m ∙ sym (one-more-sizes m)) (layout-is-legal h cs f)
+  pub room-some-set : pages cs ≤ 2 ^ h → ¬ NoLegalSet h sized
+  room-some-set fits none-legal =
+      none-legal (layoutSet h cs) (layout-in-tree h cs) (λ m. layout-has-counts h cs fits m ∙ sym (same m)) (layout-is-legal h cs fits)

@@ -4,7 +4,10 @@ pub mod Checks
 pub mod Kept
 pub mod Answers
 pub mod Struck
-pub mod Granting
+pub mod Exchanged
+pub mod Placing
+pub mod OneKind
+pub mod Same
 pub mod Releasing
 pub mod Cases
 pub mod Reported

@@ -41,15 +41,15 @@ later : ℕ → List ℕ → ℕ → ℕ → List Check
 later h T t p = check 7 (not (in-order? h T)) ∷ grant-holdings h T t (levelFor h p)
 
 answer-by-pages : (h : ℕ) (T : List ℕ) (t p m : ℕ)
-    → step h T (grant-pages t p m) .answer ≡ first (four h (length T) t m ++ pages-check h p ∷ later h T t p)
+    → step h T (grant-pages t p m) .answer ≡ first (four h (length T) 4 t m ++ pages-check h p ∷ later h T t p)
 unfolding later
 answer-by-pages h T t p m = answer-is-first h T (grant-pages t p m)
 
-module _ (h : ℕ) (T : List ℕ) (t p m : ℕ) (passed : first (four h (length T) t m) ≡ 0) where
+module _ (h : ℕ) (T : List ℕ) (t p m : ℕ) (passed : first (four h (length T) 4 t m) ≡ 0) where
   decided : step h T (grant-pages t p m) .answer ≡ first (pages-check h p ∷ later h T t p)
   decided =
       answer-by-pages h T t p m
-      ∙ first-after-none (four h (length T) t m) (pages-check h p ∷ later h T t p) (four-numbered h (length T) t m) passed
+      ∙ first-after-none (four h (length T) 4 t m) (pages-check h p ∷ later h T t p) (four-numbered h (length T) 4 t m) passed
 
   later-not-6 : ¬ (first (later h T t p) ≡ 6)
   unfolding later
@@ -68,7 +68,7 @@ module _ (h : ℕ) (T : List ℕ) (t p m : ℕ) (passed : first (four h (length 
 -- the node is on the level that the pages take
 on-level : (h : ℕ) (T : List ℕ) (t p m : ℕ) → step h T (grant-pages t p m) .answer ≡ 0
     → level h (step h T (grant-pages t p m) .node) ≡ levelFor h p
-on-level h T t p m e = demand-2 h T (grant-pages t p m) .grant (levelFor h p) by-pages e .on-level
+on-level h T t p m e = demand-2 h T (grant-pages t p m) .grant (levelFor h p) by-pages e .placed .on-level
 
 -- 1 to 4 are other numbers than 6
 four-not-6 : (a b c d : Bool) → ¬ (first (check 1 a ∷ check 2 b ∷ check 3 c ∷ check 4 d ∷ []) ≡ 6)
@@ -80,12 +80,12 @@ four-not-6 false false false false e = omega arith
 
 -- no pages are fewer than any reserve has, so 6 never applies to them
 never-6 : (h : ℕ) (T : List ℕ) (t p m : ℕ) → p ≡ 0 → ¬ (step h T (grant-pages t p m) .answer ≡ 6)
-never-6 h T t p m z e = go (ℕ-discrete (first (four h (length T) t m)) 0)
+never-6 h T t p m z e = go (ℕ-discrete (first (four h (length T) 4 t m)) 0)
   where
-    go : Dec (first (four h (length T) t m) ≡ 0) → ⊥
+    go : Dec (first (four h (length T) 4 t m) ≡ 0) → ⊥
     go (yes passed) = omega (arith, only-6 h T t p m passed e, pow-pos h)
     go (no refused) =
-        let stands = first-stands (four h (length T) t m) (pages-check h p ∷ later h T t p) refused in
+        let stands = first-stands (four h (length T) 4 t m) (pages-check h p ∷ later h T t p) refused in
         four-not-6 (ltb 12 h) (not (eqb (length T) 4096)) (ltb m 4) (ltb 4095 t) (sym stands ∙ sym (answer-by-pages h T t p m) ∙ e)
 
 pub grant-by-pages : PagesPromise

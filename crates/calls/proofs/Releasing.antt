@@ -1,8 +1,8 @@
--- An accepted release keeps the table in order and the book in agreement with it.
+-- An accepted release keeps the table in order and the book in agreement with it, and a growth finds its tenant out of the way.
 use mathlib.Core.Path.{_≡_, refl, sym, ap, _∙_}
 use mathlib.Core.List.{List}
 use mathlib.Core.Option.{none}
-use Prim.Native.Nat.{ℕ, _^_, _≤_, _<_}
+use Prim.Native.Nat.{ℕ, _+_, _^_, _≤_, _<_}
 use native.Mathlib.Nat.{le-of-eq}
 use native.Mathlib.Omega.{arith}
 use native.Mathlib.Decide.{ℕ-discrete}
@@ -16,13 +16,13 @@ use Rattle.layout.specs.Change.{oneMore, oneFewer}
 use Rattle.layout.proofs.Theorems.{layout-in-tree, layout-has-counts}
 use Rattle.table.specs.Table.{nodeAt, occupied, countsOf, InOrder}
 use Rattle.table.specs.Pairing.{moved}
-use Rattle.table.proofs.Order.{in-order-fits, in-order-of-layout}
+use Rattle.table.proofs.Order.{counts-length, in-order-fits, in-order-of-layout}
 use Rattle.table.proofs.Moved.{Movable, moved-length, moved-once, moved-occupies}
 use Rattle.calls.specs.History.{Book, write}
 use Rattle.calls.specs.Demand.{Agrees}
 use Rattle.calls.proofs.Room.{pages-one-more}
 use Rattle.calls.proofs.Kept.{Kept}
-use Rattle.calls.proofs.Granting.{agrees-moved}
+use Rattle.calls.proofs.Placing.{agrees-moved, Standing, Coming}
 use Rattle.calls.proofs.Struck.{one-more-one-fewer, node-after-set, node-beside-set, struck-in-tree, struck-once}
 use Rattle.calls.proofs.Struck.{level-in-counts, holder-counted, struck-sizes}
 
@@ -87,4 +87,26 @@ module _ (h : ℕ) (T : List ℕ) (B : Book) (K : Kept h T B) (t : ℕ) (t<4096 
     entries = moved-length h fewer-set struck ∙ length-set T t 0 ∙ K .entries;
     in-order = release-in-order;
     agrees = λ u. agrees-moved h fewer-set struck release-movable u (write t none B u) (struck-agrees u);
+  }
+
+  -- ---- the table without t's entry
+
+  struck-standing : Standing h struck fewer-counts
+  struck-standing = record {
+    height = K .height;
+    entries = length-set T t 0 ∙ K .entries;
+    levels = length-set (countsOf h T) old-level _ ∙ counts-length h T;
+    in-tree = struck-in-tree h T t (K .in-order) t-in-table holds;
+    once = struck-once h T t (K .in-order) t-in-table holds;
+    sized = struck-sizes h T t (K .in-order) t-in-table holds (K .height);
+  }
+
+  pub growth-coming : (l : ℕ) → l ≤ h → pages fewer-counts + 2 ^ l ≤ 2 ^ h → Coming h T t l struck fewer-counts
+  growth-coming l l≤h fits = record {
+    standing = struck-standing;
+    tenant = t<4096;
+    out = node-after-set T t 0 t-in-table;
+    beside = node-beside-set T t 0;
+    in-height = l≤h;
+    fits = fits;
   }

@@ -15,9 +15,9 @@ use Rattle.tree.specs.Held.{Nodes}
 use Rattle.tree.proofs.Sum.{count-cong, count-of-none}
 use Rattle.tree.proofs.Count.{passes-first, fails-second, passes-only-first}
 use Rattle.layout.specs.Set.{layoutSet}
-use Rattle.layout.specs.Change.{oneMore, mostByGrant, mostByRelease}
+use Rattle.layout.specs.Change.{oneMore, mostByGrant, mostByRelease, mostByGrowth}
 use Rattle.layout.specs.Leaving.{leaving}
-use Rattle.layout.proofs.Leaving.{count-mono, grant-leaves-at-most-3, release-leaves-at-most-4}
+use Rattle.layout.proofs.Leaving.{count-mono, grant-leaves-at-most-3, release-leaves-at-most-4, growth-leaves-at-most-7}
 use Rattle.table.specs.Table.{nodeAt, occupied, countsOf, InOrder}
 use Rattle.table.specs.Pairing.{moved, movesOf}
 use Rattle.table.specs.declared.Move.{Move}
@@ -72,7 +72,7 @@ nothing-changes t T = count-of-none 4096 _ (λ u q e. same (nodeAt T u) (not (eq
 pub listed-few : (h n : ℕ) (ms : List Move) → length ms ≤ n → length (inOrder h ms) ≤ n
 listed-few h n ms q = rw (in-order-length h ms) q
 
-struck-was-occupied : (T : List ℕ) (t n : ℕ) → occupied (set T t 0) n ≡ true → occupied T n ≡ true
+pub struck-was-occupied : (T : List ℕ) (t n : ℕ) → occupied (set T t 0) n ≡ true → occupied T n ≡ true
 struck-was-occupied T t n p = go (tenant-of (set T t 0) n p)
   where
     above : 0 < n
@@ -88,24 +88,33 @@ struck-was-occupied T t n p = go (tenant-of (set T t 0) n p)
             let was : nodeAt T u ≡ n = sym (node-beside-set T t 0 u ne) ∙ at-n in
             rw was at (occupied-by T u (rw was above))
 
+-- as many leave the nodes that the table had as leave its layout, or fewer
+moves-few : (h : ℕ) (T S ds : List ℕ) (most : ℕ) → h ≤ 12 → InOrder h T → ((n : ℕ) → occupied S n ≡ true → occupied T n ≡ true)
+    → Movable h (layoutSet h ds) S → leaving h (layoutSet h (countsOf h T)) (layoutSet h ds) ≤ most → length (movesOf h (layoutSet h ds) S) ≤ most
+unfolding leaving
+moves-few h T S ds most h≤12 o from M few =
+    let N = layoutSet h ds in
+    let fewer = count-mono (2 ^ suc h) (λ n. occupied S n && not (N n)) (λ n. layoutSet h (countsOf h T) n && not (N n)) was in
+    omega (arith, moves-counted M)
+  where
+    was : (n : ℕ) → (occupied S n && not (layoutSet h ds n)) ≡ true → (layoutSet h (countsOf h T) n && not (layoutSet h ds n)) ≡ true
+    was n p =
+        passes-only-first (layoutSet h (countsOf h T) n) (layoutSet h ds n)
+        (sym (in-order-is-layout h T h≤12 o n) ∙ from n (passes-first (occupied S n) (layoutSet h ds n) p))
+        (fails-second (occupied S n) (layoutSet h ds n) p)
+
 pub grant-moves-few : (h : ℕ) (T : List ℕ) (l : ℕ) → h ≤ 12 → InOrder h T → l < length (countsOf h T)
     → Movable h (layoutSet h (oneMore (countsOf h T) l)) T → length (movesOf h (layoutSet h (oneMore (countsOf h T) l)) T) ≤ mostByGrant
-unfolding leaving
 grant-moves-few h T l h≤12 o q M =
-    rw (moves-counted M, fun-ext (in-order-is-layout h T h≤12 o)) (grant-leaves-at-most-3 h (countsOf h T) l q)
+    moves-few h T T (oneMore (countsOf h T) l) mostByGrant h≤12 o (λ n p. p) M (grant-leaves-at-most-3 h (countsOf h T) l q)
 
-pub release-moves-few : (h : ℕ) (T : List ℕ) (t l : ℕ) (cs : List ℕ) → h ≤ 12 → InOrder h T → l < length cs → oneMore cs l ≡ countsOf h T
-    → Movable h (layoutSet h cs) (set T t 0) → length (movesOf h (layoutSet h cs) (set T t 0)) ≤ mostByRelease
-unfolding leaving
-release-moves-few h T t l cs h≤12 o q e M =
-    let N = layoutSet h cs in
-    let fewer = count-mono (2 ^ suc h) (λ n. occupied (set T t 0) n && not (N n)) (λ n. layoutSet h (oneMore cs l) n && not (N n)) was in
-    omega (arith, moves-counted M, fewer, release-leaves-at-most-4 h cs l q)
-  where
-    was : (n : ℕ) → (occupied (set T t 0) n && not (layoutSet h cs n)) ≡ true → (layoutSet h (oneMore cs l) n && not (layoutSet h cs n)) ≡ true
-    was n p =
-        let held-after = passes-first (occupied (set T t 0) n) (layoutSet h cs n) p in
-        let held-before : layoutSet h (oneMore cs l) n ≡ true =
-        ap (λ (ds : List ℕ). layoutSet h ds n) e ∙ sym (in-order-is-layout h T h≤12 o n) ∙ struck-was-occupied T t n held-after in
-        passes-only-first (layoutSet h (oneMore cs l) n) (layoutSet h cs n) held-before
-        (fails-second (occupied (set T t 0) n) (layoutSet h cs n) p)
+-- tenant t has left level x, and the counts cs are those of the others
+module _ (h : ℕ) (T : List ℕ) (t x : ℕ) (cs : List ℕ) (h≤12 : h ≤ 12) (o : InOrder h T) (q : x < length cs) (e : oneMore cs x ≡ countsOf h T) where
+  pub release-moves-few : Movable h (layoutSet h cs) (set T t 0) → length (movesOf h (layoutSet h cs) (set T t 0)) ≤ mostByRelease
+  release-moves-few M =
+      moves-few h T (set T t 0) cs mostByRelease h≤12 o (struck-was-occupied T t) M (rw (← e) (release-leaves-at-most-4 h cs x q))
+
+  pub growth-moves-few : (l : ℕ) → l < length cs → Movable h (layoutSet h (oneMore cs l)) (set T t 0)
+      → length (movesOf h (layoutSet h (oneMore cs l)) (set T t 0)) ≤ mostByGrowth
+  growth-moves-few l r M =
+      moves-few h T (set T t 0) (oneMore cs l) mostByGrowth h≤12 o (struck-was-occupied T t) M (rw (← e) (growth-leaves-at-most-7 h cs x l q r))

@@ -1,4 +1,4 @@
--- What an accepted grant or release does, for every height and table. Demand 2, document 01's "Calls", and the list of document 02, L2.
+-- What an accepted call does, for every height and table. Demand 2, document 01's "Calls", and document 02: the list of L2, and the growth of L5.
 use mathlib.Core.Path.{_≡_}
 use mathlib.Core.Bool.{true}
 use mathlib.Core.List.{List}
@@ -14,7 +14,7 @@ use Rattle.table.specs.declared.Move.{Move}
 use Rattle.carrying.specs.Carrying.{Workable}
 use Rattle.calls.specs.Call.{Call, tenantOf}
 use Rattle.calls.specs.Step.{Outcome, step}
-use Rattle.calls.specs.Demand.{Asks, Releases}
+use Rattle.calls.specs.Demand.{Asks, Releases, Grows, Unchanged}
 
 -- m takes a tenant other than t from its node in T to a different one, its node in T′
 pub record Shifted (t : ℕ) (T T′ : List ℕ) (m : Move) : Type 0 where
@@ -25,7 +25,7 @@ pub record Shifted (t : ℕ) (T T′ : List ℕ) (m : Move) : Type 0 where
   pub has-one : 0 < m .to
   pub differ : ¬ (m .from ≡ m .to)
 
--- what both kinds of call do to the tenants but their own, t
+-- what every kind of call does to the tenants but its own, t
 pub record Settled (h t : ℕ) (T : List ℕ) (o : Outcome) : Type 0 where
   -- the places occupied are a legal and safe set
   pub within : Within h (occupied (o .table))
@@ -48,16 +48,20 @@ pub record Settled (h t : ℕ) (T : List ℕ) (o : Outcome) : Type 0 where
   -- the list can be carried out, and is the one that document 02, L2, chooses among all plans
   pub workable : Workable h t T (o .table) (o .moves)
 
--- a grant at level l: one more block there, and the newcomer has it and the answer names it
-pub record AfterGrant (h : ℕ) (T : List ℕ) (t l : ℕ) (o : Outcome) : Type 0 where
-  pub settled : Settled h t T o
-  pub sized : (m : ℕ) → sizes h (occupied (o .table)) m ≡ sizes h (occupied T) m + one-if (eqb m l)
-  pub had-nothing : nodeAt T t ≡ 0
+-- the newcomer t has a block of level l, and the answer names it
+pub record Placed (h : ℕ) (T : List ℕ) (t l : ℕ) (o : Outcome) : Type 0 where
   pub newcomer : nodeAt (o .table) t ≡ o .node
   pub on-level : level h (o .node) ≡ l
   pub a-node : 0 < o .node
   -- the newcomer and the movers take all the nodes that nobody stays on, and the newcomer's is right of the movers' on its level
   pub newcomer-paired : NewcomerPaired h (occupied (o .table)) t T (o .table)
+
+-- a grant at level l: one more block there, for one that had nothing
+pub record AfterGrant (h : ℕ) (T : List ℕ) (t l : ℕ) (o : Outcome) : Type 0 where
+  pub settled : Settled h t T o
+  pub sized : (m : ℕ) → sizes h (occupied (o .table)) m ≡ sizes h (occupied T) m + one-if (eqb m l)
+  pub had-nothing : nodeAt T t ≡ 0
+  pub placed : Placed h T t l o
 
 -- a release: one block fewer at the level of the node given up, which the answer names
 pub record AfterRelease (h : ℕ) (T : List ℕ) (t : ℕ) (o : Outcome) : Type 0 where
@@ -69,7 +73,16 @@ pub record AfterRelease (h : ℕ) (T : List ℕ) (t : ℕ) (o : Outcome) : Type 
   -- the movers take all the nodes that nobody stays on
   pub movers-fill : MoversFill (occupied (o .table)) t T (o .table)
 
+-- a growth up or down to level l: one more block there and one fewer at the level that t had; at the same level nothing changes
+pub record AfterGrowth (h : ℕ) (T : List ℕ) (t l : ℕ) (o : Outcome) : Type 0 where
+  pub settled : Settled h t T o
+  pub sized : (m : ℕ) → sizes h (occupied (o .table)) m + one-if (eqb m (level h (nodeAt T t))) ≡ sizes h (occupied T) m + one-if (eqb m l)
+  pub had-one : 0 < nodeAt T t
+  pub placed : Placed h T t l o
+  pub same-level : level h (nodeAt T t) ≡ l → Unchanged t T o
+
 -- demand 2: what an accepted call c does to the table T at height h
 pub record Demand2 (h : ℕ) (T : List ℕ) (c : Call) : Type 0 where
   pub grant : (l : ℕ) → Asks h c l → step h T c .answer ≡ 0 → AfterGrant h T (tenantOf c) l (step h T c)
   pub release : Releases c → step h T c .answer ≡ 0 → AfterRelease h T (tenantOf c) (step h T c)
+  pub growth : (l : ℕ) → Grows c l → step h T c .answer ≡ 0 → AfterGrowth h T (tenantOf c) l (step h T c)

@@ -1,27 +1,23 @@
--- What the inner functions of a grant and a release ask and give.
+-- What the inner functions of a call ask and give.
 use mathlib.Core.Path.{_≡_}
 use mathlib.Core.Bool.{true, not, cond}
 use mathlib.Core.List.{List, [], _∷_}
-use Prim.Native.Nat.{ℕ, _^_, _≤_, _<_}
-use lib.Dec.{eqb}
-use lib.ListN.{length, getD}
+use Prim.Native.Nat.{ℕ, _+_, _^_, _≤_, _<_}
+use lib.Dec.{eqb, leb, ltb}
+use lib.ListN.{length, set}
 use Rattle.tree.specs.Node.{level}
 use Rattle.layout.specs.Layout.{pages}
 use Rattle.layout.specs.Change.{oneMore, oneFewer}
-use Rattle.layout.specs.Rows.{no-level, rowsOf}
+use Rattle.layout.specs.Rows.{no-level}
 use Rattle.layout.specs.Set.{layoutSet}
-use Rattle.table.specs.Table.{nodeAt, countsOf, in-order?}
+use Rattle.table.specs.Table.{nodeAt, occupied, countsOf, in-order?}
 use Rattle.table.specs.Owners.{ownersOf}
-use Rattle.table.specs.Plan.{Plannable, AllPlanned}
+use Rattle.table.specs.Pairing.{newcomer, moved, movesOf}
+use Rattle.table.specs.Plan.{planOf}
 use Rattle.table.specs.declared.plan.Planned.{Planned}
-use Rattle.calls.specs.Call.{Call, grant-level, grant-pages, release, levelFor}
-use Rattle.calls.specs.Step.{Outcome, check, first, grant-holdings, granted, released, unless}
-
--- the level of the block that a call at height h asks for; none for a release
-abbrev pub wantedBy : ℕ → Call → ℕ
-wantedBy h (grant-level t l m) = l
-wantedBy h (grant-pages t p m) = levelFor h p
-wantedBy h (release t m) = no-level
+use Rattle.carrying.specs.Order.{inOrder}
+use Rattle.calls.specs.Call.{Call}
+use Rattle.calls.specs.Step.{Outcome, check, first, grant-holdings, grow-holdings, countsBut, holdings, granted, released, accepted, unless}
 
 -- the arguments have passed 1, 2 and 4
 pub record Ready (h : ℕ) (T : List ℕ) (t : ℕ) : Type 0 where
@@ -35,38 +31,43 @@ pub record Looked (h : ℕ) (T cs o : List ℕ) : Type 0 where
   pub counts : cs ≡ countsOf h T
   pub owners : o ≡ ownersOf 8192 T
 
--- the counts before and after fit, and the planner may be asked for their layouts
-pub record GrantPlannable (h : ℕ) (cs : List ℕ) (l : ℕ) (owners : List ℕ) : Type 0 where
-  pub below : getD cs l 0 < 65535
-  pub old-fits : pages cs ≤ 4096
-  pub new-fits : pages (oneMore cs l) ≤ 4096
-  pub plannable : Plannable h (rowsOf cs) (rowsOf (oneMore cs l)) 0 owners
+-- the counts without the block on node n, if that is one
+unfoldable pub without : ℕ → List ℕ → ℕ → List ℕ
+without h cs n = cond (eqb n 0) cs (oneFewer cs (level h n))
 
--- what the planner then gives: the moves, and the newcomer's node
-abbrev pub GrantPlanned : ℕ → List ℕ → ℕ → List ℕ → Planned → Type 0
-GrantPlanned h cs l owners r = AllPlanned h (rowsOf cs) (rowsOf (oneMore cs l)) 0 l owners r
+-- those of the others: without tenant t's block, if it has one
+abbrev pub others : ℕ → List ℕ → ℕ → List ℕ
+others h T t = without h (countsOf h T) (nodeAt T t)
 
--- the same for the release of node n
-pub record ReleasePlannable (h : ℕ) (cs : List ℕ) (n : ℕ) (owners : List ℕ) : Type 0 where
-  pub old-fits : pages cs ≤ 4096
-  pub new-fits : pages (oneFewer cs (level h n)) ≤ 4096
-  pub plannable : Plannable h (rowsOf cs) (rowsOf (oneFewer cs (level h n))) n owners
+-- The counts that the table is laid out for, and the level that t then has: those of the others and none, or one more at a level for which there
+-- is room.
+pub data Target (h : ℕ) (T : List ℕ) (t : ℕ) : List ℕ → ℕ → Type 0 where
+  given-up : 0 < nodeAt T t → Target h T t (others h T t) no-level
+  placed : (l : ℕ) → l ≤ h → pages (others h T t) + 2 ^ l ≤ 2 ^ h → Target h T t (oneMore (others h T t) l) l
 
--- what the planner then gives: the moves, and no newcomer
-abbrev pub ReleasePlanned : ℕ → List ℕ → ℕ → List ℕ → Planned → Type 0
-ReleasePlanned h cs n owners r = AllPlanned h (rowsOf cs) (rowsOf (oneFewer cs (level h n))) n no-level owners r
+-- tenant t is out of the way, the others are in the layout of the counts ds, and t has the place on level x that they leave over, if it wants one
+pub record Resettled (h : ℕ) (T : List ℕ) (t : ℕ) (ds : List ℕ) (x : ℕ) (r : Planned) (T′ : List ℕ) : Type 0 where
+  pub plan : r .plan ≡ planOf (inOrder h (movesOf h (layoutSet h ds) (set T t 0)))
+  pub node : r .node ≡ cond (leb x h) (newcomer h (occupied (set T t 0)) (layoutSet h ds) x) 0
+  pub table : T′ ≡ set (moved h (layoutSet h ds) (set T t 0)) t (r .node)
 
--- a grant at level l whose arguments are valid: 7, 8, 10, or the block
+-- a block of level l for tenant t, in the place of the one that it has, if it has one: 10, or the block
+unfoldable pub placeOn : ℕ → List ℕ → ℕ → ℕ → Outcome
+placeOn h T t l =
+    unless (first (check 10 (ltb (2 ^ h) (pages (others h T t) + 2 ^ l)) ∷ [])) T (granted h (set T t 0) (layoutSet h (oneMore (others h T t) l)) t l)
+
+-- a grant at level l on a table in order: 8, 10, or the block
 unfoldable pub grantOn : ℕ → List ℕ → ℕ → ℕ → Outcome
-grantOn h T t l =
-    unless (first (check 7 (not (in-order? h T)) ∷ grant-holdings h T t l)) T (granted h T (layoutSet h (oneMore (countsOf h T) l)) t l)
+grantOn h T t l = unless (first (grant-holdings h T t l)) T (granted h T (layoutSet h (oneMore (countsOf h T) l)) t l)
 
--- a release whose arguments are valid: 7, 9, or the node given up
+-- a release: 9, or the node given up
 unfoldable pub releaseOn : ℕ → List ℕ → ℕ → Outcome
-releaseOn h T t =
-    unless (first (check 7 (not (in-order? h T)) ∷ check 9 (eqb (nodeAt T t) 0) ∷ [])) T
-    (released h T (layoutSet h (oneFewer (countsOf h T) (level h (nodeAt T t)))) t)
+releaseOn h T t = unless (first (check 9 (eqb (nodeAt T t) 0) ∷ [])) T (released h T (layoutSet h (countsBut h T t)) t)
 
--- either, by the level wanted
-unfoldable pub changeOn : ℕ → List ℕ → ℕ → ℕ → Outcome
-changeOn h T t w = cond (eqb w no-level) (releaseOn h T t) (grantOn h T t w)
+-- a growth to level l: 9, 10, or the block
+unfoldable pub growOn : ℕ → List ℕ → ℕ → ℕ → Outcome
+growOn h T t l = unless (first (grow-holdings h T t l)) T (granted h (set T t 0) (layoutSet h (oneMore (countsBut h T t) l)) t l)
+
+-- a call whose arguments are valid: 7, or what the table decides
+unfoldable pub changeOn : ℕ → List ℕ → Call → Outcome
+changeOn h T c = unless (first (check 7 (not (in-order? h T)) ∷ holdings h T c)) T (accepted h T c)

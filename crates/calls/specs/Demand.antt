@@ -1,7 +1,7 @@
--- Demand 3 and document 01's list under "Histories", as one statement about two whole histories of one height.
+-- Demand 3 and document 01's list under "Histories", with the growth of document 02, L5, as one statement about two whole histories of one height.
 use mathlib.Core.Path.{_≡_}
 use mathlib.Core.Bool.{Bool, not, _&&_}
-use mathlib.Core.List.{List}
+use mathlib.Core.List.{List, []}
 use mathlib.Core.Logic.{_⊎_, _↔_}
 use mathlib.Core.Option.{Option, some, none}
 use Prim.Native.Nat.{ℕ, suc, _+_, _≤_, _<_}
@@ -10,9 +10,9 @@ use lib.ListN.{length}
 use Rattle.tree.specs.Node.{InTree, level}
 use Rattle.tree.specs.Held.{Nodes, Within, Legal, Safe, sizes, count, one-if}
 use Rattle.table.specs.Table.{nodeAt, occupied}
-use Rattle.calls.specs.Call.{Call, grant-level, grant-pages, release, tenantOf, levelFor}
+use Rattle.calls.specs.Call.{Call, grant-level, grant-pages, release, grow, tenantOf, levelFor}
 use Rattle.calls.specs.Step.{Outcome, first, validity, step}
-use Rattle.calls.specs.History.{History, tableAfter, Book, bookAfter, held}
+use Rattle.calls.specs.History.{History, tableAfter, Book, bookAfter, held, write}
 
 -- valid: none of 3 to 6 applies
 abbrev pub Valid : ℕ → Call → Type 0
@@ -27,6 +27,10 @@ pub data Asks (h : ℕ) : Call → ℕ → Type 0 where
 pub data Releases : Call → Type 0 where
   releases : {t m : ℕ} → Releases (release t m)
 
+-- c is a growth, up or down, to level l
+pub data Grows : Call → ℕ → Type 0 where
+  grows : {t l m : ℕ} → Grows (grow t l m) l
+
 -- what the book has for a tenant, and what the table has
 abbrev pub Agrees : ℕ → Option ℕ → ℕ → Type 0
 Agrees h none n = n ≡ 0
@@ -36,9 +40,24 @@ Agrees h (some l) n = InTree h n × (level h n ≡ l)
 abbrev pub withOne : Book → ℕ → ℕ → ℕ
 withOne B l m = held B m + one-if (eqb m l)
 
--- no legal placement: every set of nodes of the tree with those sizes and one more fails to be legal
+-- every set of nodes of the tree with those sizes fails to be legal
+abbrev pub NoLegalSet : ℕ → (ℕ → ℕ) → Type 0
+NoLegalSet h sized = (A : Nodes) → Within h A → ((m : ℕ) → sizes h A m ≡ sized m) → ¬ Legal A
+
+-- no legal placement: none has the held sizes and one more at level l
 abbrev pub NoPlacement : ℕ → Book → ℕ → Type 0
-NoPlacement h B l = (A : Nodes) → Within h A → ((m : ℕ) → sizes h A m ≡ withOne B l m) → ¬ Legal A
+NoPlacement h B l = NoLegalSet h (withOne B l)
+
+-- no legal exchange: none has the held sizes with tenant t's level exchanged for l
+abbrev pub NoExchange : ℕ → Book → ℕ → ℕ → Type 0
+NoExchange h B t l = NoLegalSet h (held (write t (some l) B))
+
+-- a call that changes nothing: it answers 0 and the node that its tenant t has
+pub record Unchanged (t : ℕ) (T : List ℕ) (o : Outcome) : Type 0 where
+  pub answer : o .answer ≡ 0
+  pub node : o .node ≡ nodeAt T t
+  pub moves : o .moves ≡ []
+  pub table : o .table ≡ T
 
 -- how many tenants but t have a node before and a different node after
 unfoldable pub changed : ℕ → List ℕ → List ℕ → ℕ
@@ -58,14 +77,20 @@ pub record Box (h : ℕ) (T : List ℕ) (B : Book) : Type 0 where
       → ((step h T c .answer ≡ 10) ↔ NoPlacement h B l) × ((step h T c .answer ≡ 10) ⊎ (step h T c .answer ≡ 0))
   pub holder-releases : (c : Call) (k : ℕ) → Releases c → Valid h c → B (tenantOf c) ≡ some k → step h T c .answer ≡ 0
   pub other-releases : (c : Call) → Releases c → Valid h c → B (tenantOf c) ≡ none → step h T c .answer ≡ 9
+  pub other-grows : (c : Call) (l : ℕ) → Grows c l → Valid h c → B (tenantOf c) ≡ none → step h T c .answer ≡ 9
+  pub same-level : (c : Call) (l : ℕ) → Grows c l → Valid h c → B (tenantOf c) ≡ some l → Unchanged (tenantOf c) T (step h T c)
+  pub holder-grows : (c : Call) (l k : ℕ) → Grows c l → Valid h c → B (tenantOf c) ≡ some k
+      → ((step h T c .answer ≡ 10) ↔ NoExchange h B (tenantOf c) l) × ((step h T c .answer ≡ 10) ⊎ (step h T c .answer ≡ 0))
   pub moves : (c : Call) → length (step h T c .moves) ≡ changed (tenantOf c) T (step h T c .table)
   pub grant-moves : (c : Call) (l : ℕ) → Asks h c l → step h T c .answer ≡ 0 → length (step h T c .moves) ≤ 3
   pub release-moves : (c : Call) → Releases c → step h T c .answer ≡ 0 → length (step h T c .moves) ≤ 4
+  pub growth-moves : (c : Call) (l : ℕ) → Grows c l → step h T c .answer ≡ 0 → length (step h T c .moves) ≤ 7
 
--- both answer "no room" and there is no legal placement, or both grant and each moves at most three
-pub data SameFate (h : ℕ) (B : Book) (l : ℕ) (one two : Outcome) : Type 0 where
-  no-room : one .answer ≡ 10 → two .answer ≡ 10 → NoPlacement h B l → SameFate h B l one two
-  room : one .answer ≡ 0 → two .answer ≡ 0 → length (one .moves) ≤ 3 → length (two .moves) ≤ 3 → ¬ NoPlacement h B l → SameFate h B l one two
+-- both answer "no room", and nothing is legal; or both answer 0, and each moves at most so many
+pub data SameFate (nothing-legal : Type 0) (most : ℕ) (one two : Outcome) : Type 0 where
+  no-room : one .answer ≡ 10 → two .answer ≡ 10 → nothing-legal → SameFate nothing-legal most one two
+  room : one .answer ≡ 0 → two .answer ≡ 0 → length (one .moves) ≤ most → length (two .moves) ≤ most → ¬ nothing-legal
+      → SameFate nothing-legal most one two
 
 -- two boxes of one height, each with its own history
 pub record Boxes (h : ℕ) (T₁ T₂ : List ℕ) (B₁ B₂ : Book) : Type 0 where
@@ -73,7 +98,10 @@ pub record Boxes (h : ℕ) (T₁ T₂ : List ℕ) (B₁ B₂ : Book) : Type 0 wh
   pub two : Box h T₂ B₂
   pub same-places : ((l : ℕ) → held B₁ l ≡ held B₂ l) → (n : ℕ) → occupied T₁ n ≡ occupied T₂ n
   pub same-fate : ((l : ℕ) → held B₁ l ≡ held B₂ l) → (c₁ c₂ : Call) (l : ℕ) → Asks h c₁ l → Asks h c₂ l → Valid h c₁ → Valid h c₂
-      → B₁ (tenantOf c₁) ≡ none → B₂ (tenantOf c₂) ≡ none → SameFate h B₁ l (step h T₁ c₁) (step h T₂ c₂)
+      → B₁ (tenantOf c₁) ≡ none → B₂ (tenantOf c₂) ≡ none → SameFate (NoPlacement h B₁ l) 3 (step h T₁ c₁) (step h T₂ c₂)
+  -- and of two tenants of one level that grow
+  pub same-growth : ((l : ℕ) → held B₁ l ≡ held B₂ l) → (c₁ c₂ : Call) (l k : ℕ) → Grows c₁ l → Grows c₂ l → Valid h c₁ → Valid h c₂
+      → B₁ (tenantOf c₁) ≡ some k → B₂ (tenantOf c₂) ≡ some k → SameFate (NoExchange h B₁ (tenantOf c₁) l) 7 (step h T₁ c₁) (step h T₂ c₂)
 
 -- demand 3: what holds of the tables and the books after any two histories of one height
 abbrev pub Demand3 : (h : ℕ) → History h → History h → Type 0

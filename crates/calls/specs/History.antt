@@ -1,4 +1,4 @@
--- Histories, and the book that is kept of them. Document 01, "Histories".
+-- Histories, and the book that is kept of them. Document 01, "Histories", and document 02, L5.
 use mathlib.Core.Path.{_≡_}
 use mathlib.Core.Bool.{Bool, false, cond}
 use mathlib.Core.List.{List, [], _∷_}
@@ -6,7 +6,7 @@ use mathlib.Core.Option.{Option, some, none}
 use Prim.Native.Nat.{ℕ, zero, suc}
 use lib.Dec.{eqb}
 use Rattle.tree.specs.Held.{count}
-use Rattle.calls.specs.Call.{Call, grant-level, grant-pages, release, levelFor}
+use Rattle.calls.specs.Call.{Call, grant-level, grant-pages, release, grow, levelFor}
 use Rattle.calls.specs.Step.{Outcome, step, open-reserve}
 
 -- a history at height h: an accepted opening of a lent table, then any list of calls, each on the table that the last one left
@@ -40,12 +40,14 @@ Book = ℕ → Option ℕ
 abbrev pub write : ℕ → Option ℕ → Book → Book
 write t e B u = cond (eqb u t) e (B u)
 
--- one call at height h with the number that it answered: a grant answered 0 writes the tenant's level down, a release answered 0 strikes it out
+-- one call at height h with the number that it answered: a grant answered 0 writes the tenant's level down, a release answered 0 strikes it out,
+-- a growth answered 0 writes the new level
 abbrev pub enter : ℕ → Call → ℕ → Book → Book
 enter h c (suc a) B = B
 enter h (grant-level t l m) zero B = write t (some l) B
 enter h (grant-pages t p m) zero B = write t (some (levelFor h p)) B
 enter h (release t m) zero B = write t none B
+enter h (grow t l m) zero B = write t (some l) B
 
 -- the book after some calls, fed each one's arguments and the number that it answered
 unfoldable pub bookFrom : ℕ → Book → List Call → List ℕ → Book

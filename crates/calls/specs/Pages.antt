@@ -23,11 +23,11 @@ pub record GrantByPages (h : ℕ) (T : List ℕ) (t p m : ℕ) (o : Outcome) : T
   -- and never 6
   pub unnamed-goes-in : p ≡ 0 → ¬ (o .answer ≡ 6)
   -- where none of 1 to 4 applies, 6 is answered from p = 2^h upwards and only there
-  pub refused : first (length-checks h (length T) ++ list-checks t m) ≡ 0 → (o .answer ≡ 6) ↔ (2 ^ h ≤ p)
+  pub refused : first (length-checks h (length T) ++ list-checks 4 t m) ≡ 0 → (o .answer ≡ 6) ↔ (2 ^ h ≤ p)
   -- that is exactly when the level that the pages take lies above the height
   pub no-level : (2 ^ h ≤ p) ↔ (h < levelFor h p)
   -- so at height 0 each named size gets it
-  pub height-0 : first (length-checks h (length T) ++ list-checks t m) ≡ 0 → h ≡ 0 → 0 < p → o .answer ≡ 6
+  pub height-0 : first (length-checks h (length T) ++ list-checks 4 t m) ≡ 0 → h ≡ 0 → 0 < p → o .answer ≡ 6
 
 -- the promise for every height, table and argument
 abbrev pub PagesPromise : Type 0

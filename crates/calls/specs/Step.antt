@@ -1,5 +1,5 @@
 -- What each call answers and what it leaves in the table, for every height, table and argument. Document 01, "Calls" and "Refusals by place";
--- refusal 6 as document 02, L1, has it, the list of moves as L2, and the level that pages 0 takes as L4.
+-- refusal 6 as document 02, L1, has it, the list of moves as L2, the level that pages 0 takes as L4, and a growth as L5.
 use mathlib.Core.Bool.{Bool, not, cond}
 use mathlib.Core.List.{List, [], _∷_, _++_}
 use Prim.Native.Nat.{ℕ, zero, suc, _+_, _^_}
@@ -14,7 +14,7 @@ use Rattle.table.specs.Table.{withNode, nodeAt, occupied, countsOf, in-order?}
 use Rattle.table.specs.Pairing.{newcomer, moved, movesOf}
 use Rattle.table.specs.declared.Move.{Move}
 use Rattle.carrying.specs.Order.{inOrder}
-use Rattle.calls.specs.Call.{Call, grant-level, grant-pages, release, levelFor}
+use Rattle.calls.specs.Call.{Call, grant-level, grant-pages, release, grow, levelFor, tenantOf, entriesOf, leastEntries}
 
 -- what a call reports, and the table afterwards
 pub record Outcome : Type 0 where
@@ -49,9 +49,9 @@ length-checks h n = check 1 (ltb 12 h) ∷ check 2 (not (eqb n 4096)) ∷ []
 abbrev pub reserve-checks : ℕ → List ℕ → List Check
 reserve-checks h T = length-checks h (length T)
 
--- 3 and 4
-abbrev pub list-checks : ℕ → ℕ → List Check
-list-checks t m = check 3 (ltb m 4) ∷ check 4 (ltb 4095 t) ∷ []
+-- 3 and 4, of a call that takes n entries or more
+abbrev pub list-checks : ℕ → ℕ → ℕ → List Check
+list-checks n t m = check 3 (ltb m n) ∷ check 4 (ltb 4095 t) ∷ []
 
 -- 6 for p pages: from 2^h upwards, since the guard page has to go in too; so never for 0
 abbrev pub pages-check : ℕ → ℕ → Check
@@ -62,22 +62,30 @@ abbrev pub size-checks : ℕ → Call → List Check
 size-checks h (grant-level t l m) = check 5 (ltb h l) ∷ []
 size-checks h (grant-pages t p m) = pages-check h p ∷ []
 size-checks h (release t m) = []
+size-checks h (grow t l m) = check 5 (ltb h l) ∷ []
 
--- 3 to 6: those by which a request or a release is not valid
+-- 3 to 6: those by which a call is not valid
 abbrev pub validity : ℕ → Call → List Check
-validity h (grant-level t l m) = list-checks t m ++ size-checks h (grant-level t l m)
-validity h (grant-pages t p m) = list-checks t m ++ size-checks h (grant-pages t p m)
-validity h (release t m) = list-checks t m ++ size-checks h (release t m)
+validity h c = list-checks (leastEntries c) (tenantOf c) (entriesOf c) ++ size-checks h c
 
 -- 8 and 10
 abbrev pub grant-holdings : ℕ → List ℕ → ℕ → ℕ → List Check
 grant-holdings h T t l = check 8 (ltb 0 (nodeAt T t)) ∷ check 10 (ltb (2 ^ h) (pages (countsOf h T) + 2 ^ l)) ∷ []
+
+-- the counts without the block of tenant t, which holds one
+abbrev pub countsBut : ℕ → List ℕ → ℕ → List ℕ
+countsBut h T t = oneFewer (countsOf h T) (level h (nodeAt T t))
+
+-- 9 and 10 for a growth: the pages after the change
+abbrev pub grow-holdings : ℕ → List ℕ → ℕ → ℕ → List Check
+grow-holdings h T t l = check 9 (eqb (nodeAt T t) 0) ∷ check 10 (ltb (2 ^ h) (pages (countsBut h T t) + 2 ^ l)) ∷ []
 
 -- 8, 9 and 10
 abbrev pub holdings : ℕ → List ℕ → Call → List Check
 holdings h T (grant-level t l m) = grant-holdings h T t l
 holdings h T (grant-pages t p m) = grant-holdings h T t (levelFor h p)
 holdings h T (release t m) = check 9 (eqb (nodeAt T t) 0) ∷ []
+holdings h T (grow t l m) = grow-holdings h T t l
 
 -- all of them, place by place
 abbrev pub checks : ℕ → List ℕ → Call → List Check
@@ -103,18 +111,20 @@ released h T N t = record {
   table = moved h N (set T t 0);
 }
 
--- what an accepted call does: the counts with one more or one fewer decide the new set
+-- What an accepted call does: the counts with one more or one fewer decide the new set. Who grows is out of the way first, and then comes as a
+-- newcomer does.
 abbrev pub accepted : ℕ → List ℕ → Call → Outcome
 accepted h T (grant-level t l m) = granted h T (layoutSet h (oneMore (countsOf h T) l)) t l
 accepted h T (grant-pages t p m) = granted h T (layoutSet h (oneMore (countsOf h T) (levelFor h p))) t (levelFor h p)
-accepted h T (release t m) = released h T (layoutSet h (oneFewer (countsOf h T) (level h (nodeAt T t)))) t
+accepted h T (release t m) = released h T (layoutSet h (countsBut h T t)) t
+accepted h T (grow t l m) = granted h (set T t 0) (layoutSet h (oneMore (countsBut h T t) l)) t l
 
 -- the refusal with this number, or what is done where it is 0
 abbrev pub unless : ℕ → List ℕ → Outcome → Outcome
 unless zero T done = done
 unless (suc n) T done = refused (suc n) T
 
--- a grant or release at height h on the table T
+-- a call at height h on the table T
 unfoldable pub step : ℕ → List ℕ → Call → Outcome
 step h T c = unless (first (checks h T c)) T (accepted h T c)
 

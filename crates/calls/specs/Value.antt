@@ -4,12 +4,12 @@ use mathlib.Core.List.{List, []}
 use Prim.Native.Nat.{ℕ, zero, suc, _≤_, _<_}
 use lib.ListN.{length, getD}
 use Rattle.table.specs.declared.plan.Plan.{Plan}
-use Rattle.calls.specs.Call.{Call, grant-level, grant-pages, release}
+use Rattle.calls.specs.Call.{Call, grant-level, grant-pages, release, grow}
 use Rattle.calls.specs.Step.{Outcome}
 use Rattle.table.specs.Plan.{movesIn, no-move, planOf}
 use Rattle.calls.specs.declared.Answer.{Answer}
 use Rattle.calls.specs.declared.Call.{Call as Arguments}
-use Rattle.calls.specs.declared.Call.the-variants.{GrantLevel, GrantPages, Release}
+use Rattle.calls.specs.declared.Call.the-variants.{GrantLevel, GrantPages, Release, Grow}
 use Rattle.calls.specs.declared.Called.{Called}
 use Rattle.calls.specs.declared.Answer.the-variants.{Done, Refused}
 
@@ -18,6 +18,7 @@ abbrev pub callOf : Arguments → ℕ → Call
 callOf (GrantLevel t l) m = grant-level t l m
 callOf (GrantPages t p) m = grant-pages t p m
 callOf (Release t) m = release t m
+callOf (Grow t l) m = grow t l m
 
 -- 0 is done, else the refusal's number
 abbrev pub numberOf : Answer → ℕ
@@ -48,7 +49,7 @@ answered a T = record { answer = numberOf a; node = nodeIn a; moves = []; table 
 abbrev pub valueOf : Called → List ℕ → Outcome
 valueOf r T = record { answer = numberOf (r .answer); node = nodeIn (r .answer); moves = movesIn (r .plan); table = T }
 
--- a plan of at most four moves, of tenants that the table has
+-- a plan of at most seven moves, of tenants that the table has
 pub record TenantsIn (T : List ℕ) (p : Plan) : Type 0 where
-  pub few : p .n ≤ 4
+  pub few : p .n ≤ 7
   pub tenants : (i : ℕ) → i < p .n → getD (p .moves) i no-move .tenant < length T

@@ -1,17 +1,19 @@
-// A grant and a release whose arguments are valid: what the table decides, and the table changed.
+// A call whose arguments are valid: what the table decides, and the table changed.
 ghost use mathlib.Core.Path.{_≡_};
 ghost use Prim.Native.Nat.{_+_, _^_, _≤_};
 ghost use lib.Dec.{leb};
 ghost use Rattle.layout.specs.Layout.{pages};
-ghost use Rattle.layout.specs.Rows.{no-level};
-ghost use Rattle.calls.specs.Value.{Gives};
-ghost use Rattle.calls.specs.Changes.{Ready, Looked, grantOn, releaseOn, changeOn};
+ghost use Rattle.calls.specs.Call.{tenantOf};
+ghost use Rattle.calls.specs.Step.{first, size-checks};
+ghost use Rattle.calls.specs.Value.{callOf, Gives};
+ghost use Rattle.calls.specs.Changes.{Ready, Looked, without as Changes·without, Target, Resettled};
+ghost use Rattle.calls.specs.Changes.{placeOn, grantOn, releaseOn, growOn, changeOn};
 use crate::Answer;
+use crate::Call;
 use crate::Called;
 use crate::carry::carry_out;
-use crate::planning::plan_grant;
-use crate::planning::plan_release;
 use crate::refused;
+use crate::request::level_for;
 use carrying::in_order;
 use layout::Counts;
 use layout::NO_LEVEL;
@@ -20,24 +22,14 @@ use refusal::HOLDS_NONE;
 use refusal::NO_ROOM;
 use refusal::NOT_IN_ORDER;
 use table::NODES;
+use table::plan::Planned;
+use table::plan::plan_moves;
 
-// Whether the reserve has room for one block more on the level.
-fn has_room(height: u16, counts: Counts, level: u16) -> bool
-    requires { ⌜ (height ≤ 12) × (level ≤ 12) × (pages (counts .at) ≤ 4096) ⌝ }
-    ensures { λ r. ⌜ r ≡ leb (pages (counts .at) + 2 ^ level) (2 ^ height) ⌝ }
-{
-    let all = layout::power(height) as u32;
-    let more = layout::power(level) as u32;
-    let held = counts.total();
-    held + more <= all
-}
-
-// Grants the tenant a block of the level wanted, or gives its block up where no level is wanted, unless the table refuses it. Both go through
-// this one function, so that the owners stand on the stack once.
-pub fn change(height: u16, table: &mut [u16], tenant: u16, wanted: u16) -> Called
-    requires ready { ⌜ Ready height (now table) tenant ⌝ }
-    requires level { ⌜ (¬ (wanted ≡ no-level) → wanted ≤ height) ⌝ }
-    ensures { λ r. ⌜ Gives (changeOn height (now (table .entry)) tenant wanted) r (now (table .exit)) ⌝ }
+// Runs the call unless the table refuses it. All kinds of call go through this one function, so that the owners stand on the stack once.
+pub fn change(height: u16, table: &mut [u16], call: Call) -> Called
+    requires ready { ⌜ Ready height (now table) (tenantOf (callOf call 0)) ⌝ }
+    requires size { ⌜ first (size-checks height (callOf call 0)) ≡ 0 ⌝ }
+    ensures { λ r. ⌜ Gives (changeOn height (now (table .entry)) (callOf call 0)) r (now (table .exit)) ⌝ }
 {
     let mut owners = [0u16; NODES];
     let found = survey::survey(height, table, &mut owners);
@@ -45,10 +37,23 @@ pub fn change(height: u16, table: &mut [u16], tenant: u16, wanted: u16) -> Calle
         return refused(NOT_IN_ORDER);
     }
     let counts = found.counts;
-    if wanted == NO_LEVEL {
-        return give_up(height, table, tenant, counts, &owners);
+    match call {
+        Call::GrantLevel { tenant, level } => {
+            grant(height, table, tenant, level, counts, &owners)
+        }
+        Call::GrantPages { tenant, pages } => {
+            grant(
+                height,
+                table,
+                tenant,
+                level_for(height, pages),
+                counts,
+                &owners,
+            )
+        }
+        Call::Release { tenant } => give_up(height, table, tenant, counts, &owners),
+        Call::Grow { tenant, level } => grow(height, table, tenant, level, counts, &owners),
     }
-    grant(height, table, tenant, wanted, counts, &owners)
 }
 
 // Grants the tenant a block of the level on a table in order, unless it holds one or there is no room.
@@ -69,18 +74,28 @@ fn grant(
     if table[t] != 0 {
         return refused(HOLDS);
     }
-    if !has_room(height, counts, level) {
-        return refused(NO_ROOM);
+    place(height, table, tenant, level, counts, owners)
+}
+
+// Exchanges the tenant's block for one of the level on a table in order, unless it holds none or there is no room.
+fn grow(
+    height: u16,
+    table: &mut [u16],
+    tenant: u16,
+    level: u16,
+    counts: Counts,
+    owners: &[u16; NODES],
+) -> Called
+    requires ready { ⌜ Ready height (now table) tenant ⌝ }
+    requires level { ⌜ level ≤ height ⌝ }
+    requires looked { ⌜ Looked height (now table) (counts .at) (now owners) ⌝ }
+    ensures { λ r. ⌜ Gives (growOn height (now (table .entry)) tenant level) r (now (table .exit)) ⌝ }
+{
+    let t = tenant as usize;
+    if table[t] == 0 {
+        return refused(HOLDS_NONE);
     }
-    let planned = plan_grant(height, counts, level, owners);
-    let node = planned.node;
-    let plan = planned.plan;
-    carry_out(table, plan);
-    table[t] = node;
-    Called {
-        answer: Answer::Done { node },
-        plan: in_order(height, plan),
-    }
+    place(height, table, tenant, level, counts, owners)
 }
 
 // Releases the tenant's block on a table in order, unless it holds none.
@@ -100,12 +115,98 @@ fn give_up(
     if node == 0 {
         return refused(HOLDS_NONE);
     }
-    let planned = plan_release(height, counts, node, owners);
-    let plan = planned.plan;
-    table[t] = 0;
-    carry_out(table, plan);
+    let rest = without(height, counts, node);
+    let done = resettle(height, table, tenant, counts, rest, NO_LEVEL, owners);
+    let plan = done.plan;
     Called {
         answer: Answer::Done { node },
+        plan,
+    }
+}
+
+// Gives the tenant a block of the level in the place of the one that it has, if it has one, unless there is no room.
+fn place(
+    height: u16,
+    table: &mut [u16],
+    tenant: u16,
+    level: u16,
+    counts: Counts,
+    owners: &[u16; NODES],
+) -> Called
+    requires ready { ⌜ Ready height (now table) tenant ⌝ }
+    requires level { ⌜ level ≤ height ⌝ }
+    requires looked { ⌜ Looked height (now table) (counts .at) (now owners) ⌝ }
+    ensures { λ r. ⌜ Gives (placeOn height (now (table .entry)) tenant level) r (now (table .exit)) ⌝ }
+{
+    let t = tenant as usize;
+    let rest = without(height, counts, table[t]);
+    if !has_room(height, rest, level) {
+        return refused(NO_ROOM);
+    }
+    let done = resettle(
+        height,
+        table,
+        tenant,
+        counts,
+        rest.one_more(level),
+        level,
+        owners,
+    );
+    let node = done.node;
+    let plan = done.plan;
+    Called {
+        answer: Answer::Done { node },
+        plan,
+    }
+}
+
+// The counts without the block on the node, if that is one.
+fn without(height: u16, counts: Counts, node: u16) -> Counts
+    ensures { λ r. ⌜ r .at ≡ Changes·without height (counts .at) node ⌝ }
+{
+    if node == 0 {
+        return counts;
+    }
+    counts.one_fewer(tree::level(height, node))
+}
+
+// Whether the reserve has room for one block more on the level.
+fn has_room(height: u16, counts: Counts, level: u16) -> bool
+    requires { ⌜ (height ≤ 12) × (level ≤ 12) × (pages (counts .at) ≤ 4096) ⌝ }
+    ensures { λ r. ⌜ r ≡ leb (pages (counts .at) + 2 ^ level) (2 ^ height) ⌝ }
+{
+    let all = layout::power(height) as u32;
+    let more = layout::power(level) as u32;
+    let held = counts.total();
+    held + more <= all
+}
+
+// Takes the tenant's block away, if it has one, moves the others into the layout of the new counts, and gives the tenant the place that they leave
+// over on the level wanted, if any is. Hands back the moves in the order of the list, and the tenant's node.
+fn resettle(
+    height: u16,
+    table: &mut [u16],
+    tenant: u16,
+    old: Counts,
+    new: Counts,
+    wanted: u16,
+    owners: &[u16; NODES],
+) -> Planned
+    requires ready { ⌜ Ready height (now table) tenant ⌝ }
+    requires looked { ⌜ Looked height (now table) (old .at) (now owners) ⌝ }
+    requires target { ⌜ Target height (now table) tenant (new .at) wanted ⌝ }
+    ensures { λ r. ⌜ Resettled height (now (table .entry)) tenant (new .at) wanted r (now (table .exit)) ⌝ }
+{
+    let t = tenant as usize;
+    let gone = table[t];
+    let planned = plan_moves(height, old.layout(), new.layout(), gone, wanted, owners);
+    let plan = planned.plan;
+    let node = planned.node;
+    table[t] = 0;
+    carry_out(table, plan);
+    table[t] = node;
+    Planned {
         plan: in_order(height, plan),
+        node,
     }
 }

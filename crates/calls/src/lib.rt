@@ -1,21 +1,18 @@
-// The calls of the reserve over a lent table: opening, and grants by level and by pages and releases, which one function runs.
+// The calls of the reserve over a lent table: opening, and grants by level and by pages, releases and growths, which one function runs.
 ghost use mathlib.Core.Path.{_≡_};
 ghost use mathlib.Core.List.{List};
 ghost use Prim.Native.Nat.{ℕ, _<_};
 ghost use Rattle.calls.specs.Step.{open-reserve, refused as Step·refused, step};
-ghost use Rattle.calls.specs.Call.{tenantOf};
-ghost use Rattle.calls.specs.Changes.{wantedBy};
+ghost use Rattle.calls.specs.Call.{tenantOf, leastEntries};
 ghost use Rattle.calls.specs.Value.{callOf, numberOf, nodeIn, answerOf, Gives};
-use layout::NO_LEVEL;
 use table::plan::Plan;
 
 mod carry;
 mod change;
 mod clear;
-mod planning;
 pub mod request;
 
-// What a call reports: done, with the newcomer's node or the one given up (0 for an opening), or the number of its refusal.
+// What a call reports: done, with the node that its tenant got or gave up (0 for an opening), or the number of its refusal.
 pub enum Answer {
     Done { node: u16 },
     Refused { number: u16 },
@@ -43,11 +40,12 @@ impl Answer {
     }
 }
 
-// A grant by level or by pages, or a release.
+// A grant by level or by pages, a release, or a growth up or down.
 pub enum Call {
     GrantLevel { tenant: u16, level: u16 },
     GrantPages { tenant: u16, pages: u16 },
     Release { tenant: u16 },
+    Grow { tenant: u16, level: u16 },
 }
 
 impl Call {
@@ -59,22 +57,33 @@ impl Call {
             Call::GrantLevel { tenant, level: _ } => tenant,
             Call::GrantPages { tenant, pages: _ } => tenant,
             Call::Release { tenant } => tenant,
+            Call::Grow { tenant, level: _ } => tenant,
         }
     }
 
-    // The level of the block that the call asks for at a height; none for a release.
-    fn wanted(self, height: u16) -> u16
-        ensures { λ r. ⌜ r ≡ wantedBy height (callOf self 0) ⌝ }
+    // The fewest move entries that the call takes: as many as a call of its kind can move tenants, or more.
+    pub fn least_entries(self) -> usize
+        ensures { λ r. ⌜ r ≡ leastEntries (callOf self 0) ⌝ }
     {
         match self {
-            Call::GrantLevel { tenant: _, level } => level,
-            Call::GrantPages { tenant: _, pages } => request::level_for(height, pages),
-            Call::Release { tenant: _ } => NO_LEVEL,
+            Call::GrantLevel {
+                tenant: _,
+                level: _,
+            } => 4,
+            Call::GrantPages {
+                tenant: _,
+                pages: _,
+            } => 4,
+            Call::Release { tenant: _ } => 4,
+            Call::Grow {
+                tenant: _,
+                level: _,
+            } => 7,
         }
     }
 }
 
-// What a grant or a release reports: its answer, and the moves that it made.
+// What a call reports: its answer, and the moves that it made.
 pub struct Called {
     pub answer: Answer,
     pub plan: Plan,
@@ -112,5 +121,5 @@ pub fn run(height: u16, table: &mut [u16], entries: usize, call: Call) -> Called
     if number != 0 {
         return refused(number);
     }
-    change::change(height, table, call.tenant(), call.wanted(height))
+    change::change(height, table, call)
 }

@@ -18,9 +18,6 @@ use table::TENANTS;
 // The largest tenant number.
 const LAST_TENANT: u16 = 4095;
 
-// The fewest move entries that a grant or a release takes.
-pub const LEAST_ENTRIES: usize = 4;
-
 // The level of an image that names no size, on a reserve that has it.
 const LEVEL_OF_NO_SIZE: u16 = 4;
 
@@ -71,10 +68,10 @@ pub fn reserve_refusal(height: u16, length: usize) -> u16
 }
 
 // The number of the first of refusals 3 and 4 that applies, or 0.
-fn list_refusal(entries: usize, tenant: u16) -> u16
-    ensures { λ r. ⌜ r ≡ first (list-checks tenant entries) ⌝ }
+fn list_refusal(least: usize, entries: usize, tenant: u16) -> u16
+    ensures { λ r. ⌜ r ≡ first (list-checks least tenant entries) ⌝ }
 {
-    if entries < LEAST_ENTRIES {
+    if entries < least {
         return MOVES;
     }
     if LAST_TENANT < tenant {
@@ -84,14 +81,14 @@ fn list_refusal(entries: usize, tenant: u16) -> u16
 }
 
 // The number of the first of refusals 1 to 4 that applies, or 0.
-fn first_of_four(height: u16, length: usize, entries: usize, tenant: u16) -> u16
-    ensures { λ r. ⌜ r ≡ first (length-checks height length ++ list-checks tenant entries) ⌝ }
+fn first_of_four(height: u16, length: usize, least: usize, entries: usize, tenant: u16) -> u16
+    ensures { λ r. ⌜ r ≡ first (length-checks height length ++ list-checks least tenant entries) ⌝ }
 {
     let number = reserve_refusal(height, length);
     if number != 0 {
         return number;
     }
-    list_refusal(entries, tenant)
+    list_refusal(least, entries, tenant)
 }
 
 // The number of the one of refusals 5 and 6 that applies to what a call asks for, or 0.
@@ -109,6 +106,7 @@ fn size_refusal(height: u16, call: Call) -> u16
             }
         }
         Call::Release { tenant: _ } => 0,
+        Call::Grow { tenant: _, level } => { if height < level { LEVEL } else { 0 } }
     }
 }
 
@@ -116,7 +114,7 @@ fn size_refusal(height: u16, call: Call) -> u16
 pub fn call_refusal(height: u16, length: usize, entries: usize, call: Call) -> u16
     ensures { λ r. ⌜ r ≡ first (length-checks height length ++ validity height (callOf call entries)) ⌝ }
 {
-    let number = first_of_four(height, length, entries, call.tenant());
+    let number = first_of_four(height, length, call.least_entries(), entries, call.tenant());
     if number != 0 {
         return number;
     }

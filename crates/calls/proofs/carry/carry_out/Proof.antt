@@ -58,7 +58,7 @@ loop-again c =
     let n = start .args .plan .n in
     let ms = start .args .plan .moves in
     let i = at-loop .loop .i in
-    let long : _≡_ {A = ℕ} (length (start .args .plan .moves)) 4 = search length-of-mapped in
+    let long : _≡_ {A = ℕ} (length (start .args .plan .moves)) 7 = search length-of-mapped in
     let q : i < length (take n ms) = omega (arith, first-n n ms (omega (arith, start .pre .few))) in
     let m = getD ms i no-move in (
       omega arith,
@@ -74,7 +74,7 @@ returns c =
     let at-loop = c .before in
     let start = at-loop .before .before in
     let ms = take (start .args .plan .n) (start .args .plan .moves) in
-    let long : _≡_ {A = ℕ} (length (start .args .plan .moves)) 4 = search length-of-mapped in
+    let long : _≡_ {A = ℕ} (length (start .args .plan .moves)) 7 = search length-of-mapped in
     let all : length ms ≤ at-loop .loop .i =
     omega (arith, first-n (start .args .plan .n) (start .args .plan .moves) (omega (arith, start .pre .few))) in
     sym (written-end (at-loop .loop .table) ms (at-loop .loop .i) all) ∙ at-loop .loop .inv .1

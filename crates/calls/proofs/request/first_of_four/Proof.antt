@@ -14,7 +14,8 @@ returns : tie.Need-returns
 returns c =
     let asked = c .before .reserve-refusal .ensures in
     let a = c .before .before .args in
-    asked ∙ sym (first-stands (length-checks (a .height) (a .length)) (list-checks (a .tenant) (a .entries)) (λ z. c .if1 .taken (asked ∙ z)))
+    let later = list-checks (a .least) (a .tenant) (a .entries) in
+    asked ∙ sym (first-stands (length-checks (a .height) (a .length)) later (λ z. c .if1 .taken (asked ∙ z)))
 
 list-refusal-requires : tie.Need-list-refusal-requires
 list-refusal-requires c κs = search needs
@@ -22,8 +23,9 @@ list-refusal-requires c κs = search needs
 returns-2 : tie.Need-returns-2
 returns-2 c =
     let a = c .before .before .before .args in
+    let later = list-checks (a .least) (a .tenant) (a .entries) in
     c .list-refusal .ensures
-    ∙ sym (first-after-none (length-checks (a .height) (a .length)) (list-checks (a .tenant) (a .entries)) (omega arith, (omega arith, tt))
+    ∙ sym (first-after-none (length-checks (a .height) (a .length)) later (omega arith, (omega arith, tt))
     (sym (c .before .before .reserve-refusal .ensures) ∙ c .before .if1 .left))
 
 pub first-of-four-spec : {M : Type 1} → statement M

@@ -16,6 +16,9 @@ power-requires c κs = search needs
 enum-told : tie.Need-enum-told
 enum-told c = search needs
 
+enum-known-call-3 : tie.Need-enum-known-call-3
+enum-known-call-3 c = search needs
+
 returns : tie.Need-returns
 returns c = rw (c .before .before .call .given .1, lt-ltb _ _ (c .if1 .taken))
 
@@ -31,6 +34,12 @@ returns-4 c = rw (c .before .before .before .call2 .given .1, lt-leb _ _ (rw (c 
 returns-5 : tie.Need-returns-5
 returns-5 c = search needs
 
+returns-6 : tie.Need-returns-6
+returns-6 c = rw (c .before .before .call3 .given .1, lt-ltb _ _ (c .if3 .taken))
+
+returns-7 : tie.Need-returns-7
+returns-7 c = rw (c .before .before .call3 .given .1, le-ltb _ _ (c .if3 .left))
+
 pub size-refusal-spec : {M : Type 1} → statement M
 size-refusal-spec =
     tie.close
@@ -39,8 +48,11 @@ size-refusal-spec =
     enum-known-call-2
     power-requires
     enum-told
+    enum-known-call-3
     returns
     returns-2
     returns-3
     returns-4
-    returns-5)
+    returns-5
+    returns-6
+    returns-7)

@@ -1,0 +1,39 @@
+-- `calls::change::grow` meets its contract: who holds nothing is refused, and any other comes as a newcomer.
+use Rattle.calls.proofs.Changing.{grow-of-nobody, grow-places}
+use Rattle.calls.proofs.Given.{gives-same}
+use borrow.Author.Needs.{needs}
+use Rattle.calls.proofs.change.grow.Statement.{statement}
+use Rattle.calls.proofs.change.grow.Tie as tie
+
+mul-if1 : tie.Need-mul-if1
+mul-if1 c = search needs
+
+slice-read-if1 : tie.Need-slice-read-if1
+slice-read-if1 c = search needs
+
+refused-requires : tie.Need-refused-requires
+refused-requires c κs = search needs
+
+returns : tie.Need-returns
+returns c =
+    let start = c .before .before .before .before in
+    let a = start .args in
+    let T = a .table .now in
+    gives-same (c .refused .ensures T) (grow-of-nobody (a .height) T (a .tenant) (a .level) (c .before .if1 .taken))
+
+place-requires : tie.Need-place-requires
+place-requires c κs = search needs
+
+same-length : tie.Need-same-length
+same-length c = search needs
+
+returns-2 : tie.Need-returns-2
+returns-2 c =
+    let x = c .before .before .before .before in
+    let a = x .before .before .before .args in
+    gives-same (c .before .before .place .ensures) (grow-places (a .height) (a .table .now) (a .tenant) (a .level) (x .if1 .left))
+
+pub grow-spec : {M : Type 1} → statement M
+grow-spec =
+    tie.close
+    (tie.spec mul-if1 slice-read-if1 refused-requires returns place-requires same-length returns-2)
