@@ -1,4 +1,4 @@
--- A list that a function makes for itself: an array of four moves in a local, which is lent whole and taken back.
+-- A list that a function makes for itself: an array of seven moves in a local, which is lent whole and taken back.
 use mathlib.Core.Path.{refl, _∙_}
 use mathlib.Core.List.{List, [], _∷_, map}
 use Prim.Native.Nat.{ℕ, _^_, _<_}
@@ -30,41 +30,41 @@ use Rattle.table.proofs.Move as Mv
 use Rattle.table.proofs.Move.Laws as Mv′
 use Rattle.table.proofs.plan.Plan as P
 
--- an array of four moves, and its type in MIR
-abbrev pub Four : RattleType
-Four = Array Mv.the-row 4
+-- an array of seven moves, and its type in MIR
+abbrev pub Seven : RattleType
+Seven = Array Mv.the-row 7
 
 abbrev pub array : Ty
-array = tyArray Mv′.mir 4
+array = tyArray Mv′.mir 7
 
 -- the array's machine value
 abbrev pub valueOf : List Move → Val
 valueOf ms = arrayVal (map (LL.val Mv.the-type Mv′.the-laws) ms)
 
 module _ {M : Type 1} (𝓤 : URA M) (H : Heap 𝓤) (A : Atoms 𝓤) (W : Given 𝓤 H A) (l : ℕ) where
-  -- the local's one value is four moves side by side, as a slice has them
+  -- the local's one value is seven moves side by side, as a slice has them
   pub lent-out : (ms : List Move) (v : Val)
-      → ent 𝓤 (sep 𝓤 (H .at fullShare array l 0 v) (sem 𝓤 H A (Four .own ms (v ∷ [])))) (sem 𝓤 H A (cells (mem Mv.the-row) ms l 0))
+      → ent 𝓤 (sep 𝓤 (H .at fullShare array l 0 v) (sem 𝓤 H A (Seven .own ms (v ∷ [])))) (sem 𝓤 H A (cells (mem Mv.the-row) ms l 0))
   unfolding partOf
   lent-out ms v =
-      qed W (‵ (fat fullShare array l 0 v) ∷ ‵ (Four .own ms (v ∷ [])) ∷ []) ∵
+      qed W (‵ (fat fullShare array l 0 v) ∷ ‵ (Seven .own ms (v ∷ [])) ∷ []) ∵
       use1 W (‵ (fat fullShare (raw array) l 0 v)) (W .laws .at-raw fullShare array l 0 v) $
-      fjoin ! $ fpack ! (List Val) (λ vs. fsep (cellAt fullShare (Four .mir) vs l 0) (Four .own ms vs)) (v ∷ []) $
-      use1 W (‵ (arr-parts (shares Mv.the-row) 4 .part fullShare ms l 0)) (array-apart 𝓤 H A W Mv.the-row fullShare tt 4 ms l 0) $ fsplit ! $ drop ! $
+      fjoin ! $ fpack ! (List Val) (λ vs. fsep (cellAt fullShare (Seven .mir) vs l 0) (Seven .own ms vs)) (v ∷ []) $
+      use1 W (‵ (arr-parts (shares Mv.the-row) 7 .part fullShare ms l 0)) (array-apart 𝓤 H A W Mv.the-row fullShare tt 7 ms l 0) $ fsplit ! $ drop ! $
       use1 W (‵ (cells (mem Mv.the-row) ms l 0)) (whole-in 𝓤 H A W Mv.the-row ms l 0) $ done !
 
-  -- and four moves side by side are one value again
+  -- and seven moves side by side are one value again
   pub taken-back : (ms : List Move)
-      → ent 𝓤 (sem 𝓤 H A (Arr (mem Mv.the-row) 4 .lies ms l 0)) (guard 𝓤 (Is Four ms (valueOf ms ∷ [])) (H .at fullShare array l 0 (valueOf ms)))
+      → ent 𝓤 (sem 𝓤 H A (Arr (mem Mv.the-row) 7 .lies ms l 0)) (guard 𝓤 (Is Seven ms (valueOf ms ∷ [])) (H .at fullShare array l 0 (valueOf ms)))
   unfolding partOf
   taken-back ms =
-      qed W (‵ (Arr (mem Mv.the-row) 4 .lies ms l 0) ∷ []) ∵
+      qed W (‵ (Arr (mem Mv.the-row) 7 .lies ms l 0) ∷ []) ∵
       fsplit ! $ move ! (1 ∷ []) $ use1 W (‵ (row Mv.the-row fullShare ms l 0)) (whole-out 𝓤 H A W Mv.the-row ms l 0) $
-      move ! (1 ∷ 0 ∷ []) $ fjoin ! $ use1 W (‵ (partAt Four fullShare ms l 0)) (array-whole 𝓤 H A W Mv.the-row fullShare 4 ms l 0) $
+      move ! (1 ∷ 0 ∷ []) $ fjoin ! $ use1 W (‵ (partAt Seven fullShare ms l 0)) (array-whole 𝓤 H A W Mv.the-row fullShare 7 ms l 0) $
       fpick ! (λ vs. fsplit ! $
-      spelt ! Four (Is Four) (shows 𝓤 H A Four) (array-vals (LL.vals Mv.the-type Mv′.the-laws))
-      (array-tells Mv.the-row (LL.vals Mv.the-type Mv′.the-laws) (LL.tells Mv.the-type Mv′.the-laws) 4) fullShare ms vs l 0 $
-      move ! (1 ∷ []) $ facts ! Four (Is Four) (shows 𝓤 H A Four) ms (valueOf ms ∷ []) (λ is. check ! is $
+      spelt ! Seven (Is Seven) (shows 𝓤 H A Seven) (array-vals (LL.vals Mv.the-type Mv′.the-laws))
+      (array-tells Mv.the-row (LL.vals Mv.the-type Mv′.the-laws) (LL.tells Mv.the-type Mv′.the-laws) 7) fullShare ms vs l 0 $
+      move ! (1 ∷ []) $ facts ! Seven (Is Seven) (shows 𝓤 H A Seven) ms (valueOf ms ∷ []) (λ is. check ! is $
       use1 W (‵ (fat fullShare array l 0 (valueOf ms))) (W .laws .raw-at fullShare array l 0 (valueOf ms)) $ done !))
 
 -- The array as a field of a plan. A field's relation is over tuples, so each entry's is carried over.
@@ -76,12 +76,12 @@ entries-as-field (m ∷ ms) [] s = s
 entries-as-field (m ∷ ms) (u ∷ us) s = (s .0, entries-as-field ms us (s .1))
 
 -- the plan of n moves in the array
-pub plan-of-list : (n : ℕ) (ms : List Move) → n < 2 ^ 64 → Is Four ms (valueOf ms ∷ []) → Is P.the-row (record {
+pub plan-of-list : (n : ℕ) (ms : List Move) → n < 2 ^ 64 → Is Seven ms (valueOf ms ∷ []) → Is P.the-row (record {
   n =
       n;
   moves = ms;
 }) (vstruct (vcons (vint w64 n) (vcons (valueOf ms) vnil)) ∷ [])
 plan-of-list n ms fits is =
-    let four = length-map ms (Mv.the-field .into) ∙ is .1 .0 .1 in
+    let seven = length-map ms (Mv.the-field .into) ∙ is .1 .0 .1 in
     let entries = entries-as-field ms (is .0) (is .1 .1) in
-    ((vint w64 n ∷ [], (valueOf ms ∷ [], tt)), (refl, ((refl, fits), ((is .0, ((is .1 .0 .0, four), entries)), tt))))
+    ((vint w64 n ∷ [], (valueOf ms ∷ [], tt)), (refl, ((refl, fits), ((is .0, ((is .1 .0 .0, seven), entries)), tt))))

@@ -11,7 +11,8 @@ use Rattle.calls.specs.Step.{step}
 use Rattle.calls.specs.Value.{callOf, Gives}
 use Rattle.calls.specs.declared.Called.{Called}
 use Rattle.calls.proofs.Entries.{entries-of, moves-within}
-use Rattle.calls.proofs.Few.{moves-at-most-4}
+use Rattle.calls.proofs.Few as Few
+use Rattle.calls.proofs.OneKind.{at-most-7}
 use Rattle.calls.specs.declared.Call.{Call}
 use Rattle.planner.specs.Performed.{Performed}
 
@@ -20,12 +21,12 @@ module _ (h : ℕ) (c : Call) (T : List ℕ) (m : ℕ) (r : Called) (T′ : List
   count : r .plan .n ≡ length (step h T (callOf c m) .moves)
   count = count-in-plan-of (r .plan) (step h T (callOf c m) .moves) (met .plan)
 
-  pub moves-few : r .plan .n ≤ 4
-  moves-few = rw count (moves-at-most-4 h T (callOf c m))
+  pub moves-few : r .plan .n ≤ 7
+  moves-few = omega (arith, count, Few.moves-few h T (callOf c m), at-most-7 (callOf c m))
 
   -- the moves have room in the list
   pub moves-fit : r .plan .n ≤ m
-  moves-fit = omega (arith, count, entries-of c m, moves-within h T (callOf c m) (moves-at-most-4 h T (callOf c m)))
+  moves-fit = omega (arith, count, entries-of c m, moves-within h T (callOf c m) (Few.moves-few h T (callOf c m)))
 
 module _ (h : ℕ) (c : Call) (T : List ℕ) (M : List Move) (r : Called) (T′ : List ℕ) (met : Gives (step h T (callOf c (length M))) r T′) where
   pub performed : (M′ : List Move) → M′ ≡ movesIn (r .plan) ++ drop (r .plan .n) M

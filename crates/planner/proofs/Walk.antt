@@ -44,8 +44,8 @@ module _ {M : Type 1} {𝓤 : URA M} where
 abbrev pub word : Ty
 word = tyInt w64
 
--- a plan's array has four entries
-pub plan-length : (p : Plan) → Is P.the-row p (LL.vals P.the-type P′.the-laws p) → length (p .moves) ≡ 4
+-- a plan's array has seven entries
+pub plan-length : (p : Plan) → Is P.the-row p (LL.vals P.the-type P′.the-laws p) → length (p .moves) ≡ 7
 plan-length p is = sym (length-map (p .moves) _) ∙ LL.owed P.the-type P′.the-laws p _ is .1 .0 .1 .0 .1
 
 -- a lent table, and a lent list of moves

@@ -10,7 +10,6 @@ ghost use Rattle.planner.specs.Performed.{Performed};
 use calls::Answer;
 use calls::Call;
 use calls::Called;
-use calls::request::LEAST_ENTRIES;
 use table::Move;
 use table::plan::Plan;
 
@@ -20,7 +19,7 @@ pub struct Report {
     pub moves: usize,
 }
 
-// Runs a grant or a release, and puts its moves at the front of the lent list.
+// Runs a call, and puts its moves at the front of the lent list.
 pub fn perform(height: u16, table: &mut [u16], moves: &mut [Move], call: Call) -> Report
     ensures { λ r. ⌜ Performed height call (now (table .entry)) (now (moves .entry)) r (now (table .exit)) (now (moves .exit)) ⌝ }
 {
@@ -37,15 +36,15 @@ pub fn perform(height: u16, table: &mut [u16], moves: &mut [Move], call: Call) -
 pub fn perform_by_value(height: u16, table: &mut [u16], entries: usize, call: Call) -> Called
     ensures { λ r. ⌜ Gives (step height (now (table .entry)) (callOf call entries)) r (now (table .exit)) ⌝ }
 {
-    if entries < LEAST_ENTRIES {
+    if entries < call.least_entries() {
         return calls::run(height, table, entries, call);
     }
-    perform_on_four(height, table, call)
+    perform_on_seven(height, table, call)
 }
 
-// Runs a call on a list of its own, of four entries, and hands its moves back by value.
-fn perform_on_four(height: u16, table: &mut [u16], call: Call) -> Called
-    ensures { λ r. ⌜ Gives (step height (now (table .entry)) (callOf call 4)) r (now (table .exit)) ⌝ }
+// Runs a call on a list of its own, of seven entries, which are enough for any call, and hands its moves back by value.
+fn perform_on_seven(height: u16, table: &mut [u16], call: Call) -> Called
+    ensures { λ r. ⌜ Gives (step height (now (table .entry)) (callOf call 7)) r (now (table .exit)) ⌝ }
 {
     let unused = Move {
         tenant: 0,
@@ -53,7 +52,7 @@ fn perform_on_four(height: u16, table: &mut [u16], call: Call) -> Called
         to: 0,
         staged: 0,
     };
-    let mut list = [unused; 4];
+    let mut list = [unused; 7];
     let report = perform(height, table, &mut list, call);
     Called {
         answer: report.answer,
@@ -66,7 +65,7 @@ fn perform_on_four(height: u16, table: &mut [u16], call: Call) -> Called
 
 // Puts the moves of a plan at the front of the list, and leaves the entries after them.
 fn fill(plan: Plan, moves: &mut [Move])
-    requires { ⌜ (plan .n ≤ 4) × (plan .n ≤ length (now moves)) ⌝ }
+    requires { ⌜ (plan .n ≤ 7) × (plan .n ≤ length (now moves)) ⌝ }
     ensures { λ _. ⌜ now (moves .exit) ≡ movesIn plan ++ drop (plan .n) (now (moves .entry)) ⌝ }
 {
     let n = plan.n;
@@ -79,7 +78,7 @@ fn fill(plan: Plan, moves: &mut [Move])
 
 // A move of a plan.
 fn move_at(plan: Plan, i: usize) -> Move
-    requires { ⌜ i < 4 ⌝ }
+    requires { ⌜ i < 7 ⌝ }
     ensures { λ r. ⌜ r ≡ getD (plan .moves) i no-move ⌝ }
 {
     let moves = plan.moves;

@@ -79,7 +79,7 @@ MoveAt 𝓤 H A mem run = tripleOf 𝓤 H A move-at.signature (move-at.spec 𝓤
 
 module _ {M : Type 1} (𝓤 : URA M) (H : Heap 𝓤) (A : Atoms 𝓤) (W : Given 𝓤 H A) (at-mem : Memory → SProp 𝓤) (run : Routine → Fun 𝓤)
     (κ : Lft) (q : Share) (b o : ℕ) (γ : GName) (p : Plan) (ys : List Move)
-    (is : Is P.the-row p (LL.vals P.the-type P′.the-laws p)) (few : p .n ≤ 4) (within : p .n ≤ length ys) (room : Room Mv.the-row (length ys)) where
+    (is : Is P.the-row p (LL.vals P.the-type P′.the-laws p)) (few : p .n ≤ 7) (within : p .n ≤ length ys) (room : Room Mv.the-row (length ys)) where
   abbrev n : ℕ
   n = p .n
 
@@ -95,8 +95,8 @@ module _ {M : Type 1} (𝓤 : URA M) (H : Heap 𝓤) (A : Atoms 𝓤) (W : Given
   abbrev vals : List Val × (List Val × Unit {0})
   vals = (vp ∷ [], (vs ∷ [], tt))
 
-  four : length (p .moves) ≡ 4
-  four = plan-length p is
+  seven : length (p .moves) ≡ 7
+  seven = plan-length p is
 
   -- the list once i moves stand in it
   abbrev listed : ℕ → List Move
@@ -107,10 +107,10 @@ module _ {M : Type 1} (𝓤 : URA M) (H : Heap 𝓤) (A : Atoms 𝓤) (W : Given
   coded ms = codedHoleys Mv.the-row .code (heres Mv.the-row ms)
 
   length-listed : (i : ℕ) → i ≤ n → length (listed i) ≡ length ys
-  length-listed i l = length-of-front i (p .moves) ys (omega (arith, four)) (omega arith)
+  length-listed i l = length-of-front i (p .moves) ys (omega (arith, seven)) (omega arith)
 
   one-more : (i : ℕ) (r : Move) → i < n → r ≡ getD (p .moves) i no-move → set (listed i) i r ≡ listed (i + 1)
-  one-more i r less e = ap (set (listed i) i) e ∙ front-next i (p .moves) ys no-move (omega (arith, four)) (omega arith)
+  one-more i r less e = ap (set (listed i) i) e ∙ front-next i (p .moves) ys no-move (omega (arith, seven)) (omega arith)
 
   abbrev Post : Val → SProp 𝓤
   Post = walkOf 𝓤 H A fill.ended stayed (fill.clauses 𝓤 H A at-mem run) .post (((κ, tt), (q, tt), tt, a, vals), tt)
@@ -254,7 +254,7 @@ module _ {M : Type 1} (𝓤 : URA M) (H : Heap 𝓤) (A : Atoms 𝓤) (W : Given
   fill-walks = walked 𝓤 H A fill.ended stayed (fill.clauses 𝓤 H A mem run) (WpFn 𝓤 H (𝓣 .C) (𝓣 .Λ) code.function)
       (λ κs. (LL.vals P.the-type P′.the-laws, (slice-vals, tt)))
       (λ κs. (LL.tells P.the-type P′.the-laws, (mut-slice-tells (named 0) (κs .0) Mv.the-row, tt)))
-      (λ κs qs bounds a g are. needs 𝓤 ((a .0 .n ≤ 4) × (a .0 .n ≤ length (a .1 .0 .now))) _ (λ l.
+      (λ κs qs bounds a g are. needs 𝓤 ((a .0 .n ≤ 7) × (a .0 .n ≤ length (a .1 .0 .now))) _ (λ l.
       walk 𝓤 H A W mem run (κs .0) (qs .0) (a .1 .0 .ptr .0) (a .1 .0 .ptr .1) (a .1 .0 .name) (a .0) (a .1 .0 .now) (are .0) (l .0) (l .1)
       (are .1 .0 .0 .1) 𝓣 known))
 
