@@ -1,7 +1,7 @@
 // Makes the calls that document 01 gives to check against, and those at the edges of their arguments. A line for each call, as in the listing
 // but without its ordinal: kind, height or tenant, level or pages, answer, node, number of moves, each move. A line with = has the entries
-// of the table that are not 0, as tenant:node. The file stdout holds what document 01 says of them, and of pages document 02. The calls go
-// through the functions that the C door and the listing use.
+// of the table that are not 0, as tenant:node. The file stdout holds what document 01 says of them, and of pages and growths document 02. The calls
+// go through the functions that the C door and the listing use.
 ghost use Prim.Native.Nat.{_≤_};
 use calls::Answer;
 use calls::Call;
@@ -14,6 +14,8 @@ fn main() {
     listing();
     height_5();
     by_pages();
+    growths();
+    seven_moves();
     openings();
     heights();
     tenants();
@@ -75,6 +77,70 @@ fn by_pages() {
     grant_pages(5, table, 4, 4, 0);
     release(5, table, 4, 2);
     show(table);
+}
+
+// Growths up, down and to the same level, also on a full reserve; one that has room because its own block is given back; and every refusal.
+fn growths() {
+    text(b"# growths\n");
+    let mut space = [0u16; 4096];
+    let table: &mut [u16] = &mut space;
+    open(2, table);
+    grant(2, table, 4, 0, 1);
+    grant(2, table, 4, 1, 0);
+    grow(2, table, 7, 1, 1);
+    show(table);
+    grow(2, table, 7, 0, 1);
+    grow(2, table, 7, 0, 2);
+    grow(2, table, 7, 2, 2);
+    grow(2, table, 7, 2, 3);
+    grow(2, table, 7, 4096, 3);
+    grow(2, table, 6, 4096, 3);
+    grow(13, table, 6, 4096, 13);
+    show(table);
+    release(2, table, 4, 1);
+    grow(2, table, 7, 0, 2);
+    grow(2, table, 7, 0, 2);
+    grow(2, table, 7, 0, 0);
+    show(table);
+}
+
+// The growth that moves seven others: at height 9, with 3, 3, 3, 1, 3, 1, 1 and 2 blocks on the levels 0 to 7, of the tenant on node 257.
+fn seven_moves() {
+    text(b"# seven moves\n");
+    let mut space = [0u16; 4096];
+    let table: &mut [u16] = &mut space;
+    open(9, table);
+    small_ones(table);
+    large_ones(table);
+    show(table);
+    grow(9, table, 7, 3, 5);
+    show(table);
+    grow(9, table, 7, 3, 1);
+    show(table);
+}
+
+fn small_ones(table: &mut [u16]) {
+    three(table, 0, 0);
+    three(table, 3, 1);
+    three(table, 6, 2);
+    grant(9, table, 4, 9, 3);
+}
+
+fn large_ones(table: &mut [u16]) {
+    three(table, 10, 4);
+    grant(9, table, 4, 13, 5);
+    grant(9, table, 4, 14, 6);
+    grant(9, table, 4, 15, 7);
+    grant(9, table, 4, 16, 7);
+}
+
+// Grants of one level to three tenants.
+fn three(table: &mut [u16], first: u16, level: u16)
+    requires { ⌜ first ≤ 10 ⌝ }
+{
+    grant(9, table, 4, first, level);
+    grant(9, table, 4, first + 1, level);
+    grant(9, table, 4, first + 2, level);
 }
 
 // A refused opening leaves the table, an accepted one sets every entry to 0.
@@ -186,7 +252,7 @@ fn size(height: u16, table: &mut [u16], pages: u16) {
     release(height, table, 4, 0);
 }
 
-// Four entries lent for moves, and three.
+// Four entries lent for moves, and three; for a growth seven, and six.
 fn entries() {
     text(b"# move entries\n");
     let mut space = [0u16; 4096];
@@ -198,6 +264,8 @@ fn entries() {
     release(3, table, 3, 0);
     show(table);
     grant(3, table, 4, 0, 0);
+    grow(3, table, 6, 0, 0);
+    grow(3, table, 7, 0, 1);
     release(3, table, 4, 0);
     show(table);
 }
@@ -221,6 +289,7 @@ fn of_length(table: &mut [u16]) {
     open(3, table);
     grant(3, table, 4, 0, 0);
     grant_pages(3, table, 4, 1, 1);
+    grow(3, table, 7, 1, 0);
     release(3, table, 4, 1);
     show(table);
 }
@@ -244,16 +313,22 @@ fn damaged() {
     show(table);
 }
 
-// Calls on a table where two tenants have these nodes: a holder's grant, another's, and a release.
+// Calls on a table where two tenants have these nodes: a holder's grant, another's, growths and releases of both.
 fn refused(table: &mut [u16], one: u16, two: u16) {
     open(3, table);
     put(table, 0, one);
     put(table, 4095, two);
     grant(3, table, 4, 0, 3);
     grant_pages(3, table, 4, 1, 1);
+    both_grow(table);
     release(3, table, 4, 0);
     release(3, table, 4, 1);
     show(table);
+}
+
+fn both_grow(table: &mut [u16]) {
+    grow(3, table, 7, 0, 1);
+    grow(3, table, 7, 1, 1);
 }
 
 // A leaf for every tenant; then one that makes the last one move.
@@ -326,6 +401,15 @@ fn release(height: u16, table: &mut [u16], entries: usize, tenant: u16) {
     print_called(called);
 }
 
+fn grow(height: u16, table: &mut [u16], entries: usize, tenant: u16, level: u16) {
+    let called = perform_by_value(height, table, entries, Call::Grow { tenant, level });
+    text(b"Z ");
+    print(tenant as usize);
+    text(b" ");
+    print(level as usize);
+    print_called(called);
+}
+
 fn print_called(called: Called) {
     let answer = called.answer;
     let plan = called.plan;
@@ -349,7 +433,7 @@ fn print_moves(plan: Plan) {
     let n = plan.n;
     let moves = plan.moves;
     print(n);
-    for i in 0..4 {
+    for i in 0..7 {
         if i < n {
             print_move(moves[i]);
         }

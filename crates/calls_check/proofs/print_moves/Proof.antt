@@ -1,14 +1,14 @@
--- `calls_check::print_moves` ends: the index goes up to 4.
+-- `calls_check::print_moves` ends: the index goes up to 7.
 use Prim.Native.Nat.{_≤_, _-_}
 use borrow.Author.Needs.{needs}
 use Rattle.calls_check.proofs.print_moves.Statement.{statement}
 use Rattle.calls_check.proofs.print_moves.Tie as tie
 
 abbrev Inv-loop : tie.InvT-loop
-Inv-loop n moves i₀ i = (i ≤ 4)
+Inv-loop n moves i₀ i = (i ≤ 7)
 
 abbrev μ-loop : tie.MeasureT-loop
-μ-loop n moves i₀ i = 4 - i
+μ-loop n moves i₀ i = 7 - i
 
 print-requires : tie.Need-print-requires Inv-loop μ-loop
 print-requires c κs = search needs
