@@ -1,5 +1,5 @@
 /*
- * Carries out the planner's moves on real bytes: four pages, three images, and what a grant and a release make of them.
+ * Carries out the planner's moves on real bytes: four pages, three images, and what a grant, a release and a growth make of them.
  *
  *   cc -Iinclude examples/carry.c target/staticlib/libreserve.a -o carry && ./carry
  *
@@ -14,11 +14,13 @@
 enum { HEIGHT = 2, PAGES = 1 << HEIGHT, PAGE_BYTES = 16 };
 
 static uint8_t table[RESERVE_TABLE_BYTES];
-static uint8_t moves[RESERVE_MOVES_BYTES];
+static uint8_t moves[RESERVE_GROW_MOVES_BYTES];
 
-/* The pages themselves, and room for staged tenants: as many pages as the reserve has are enough for every list. */
+/* The pages themselves, room for staged tenants, and room for a tenant that grows: as many pages as the reserve has are enough
+ * for every list. */
 static char reserve[PAGES * PAGE_BYTES];
 static char room[PAGES * PAGE_BYTES];
+static char own[PAGES * PAGE_BYTES];
 
 struct move {
     unsigned tenant, from, to, staged;
@@ -70,15 +72,33 @@ static void show(unsigned tenant, const char *deed, struct reserve_outcome got) 
     printf("\n");
 }
 
-/* An image gets a block, the others make way, and then its pages are written: A0 and A1 for tenant 0, B0 for tenant 1. */
+/* Writes a tenant's pages from one of them on: A0 and A1 for tenant 0, B0 for tenant 1. */
+static void write_pages(uint16_t tenant, unsigned node, unsigned from) {
+    for (unsigned page = from; page < reserve_node_pages(HEIGHT, (uint16_t)node).count; page++) {
+        snprintf(bytes_of(node) + PAGE_BYTES * page, PAGE_BYTES, "%c%u", 'A' + tenant, page);
+    }
+}
+
+/* An image gets a block, the others make way, and then its pages are written. */
 static void start(uint16_t tenant, uint16_t level) {
     struct reserve_outcome got = reserve_grant_level(HEIGHT, table, sizeof table, moves, sizeof moves, tenant, level);
     if (got.answer != RESERVE_DONE) exit(1);
     work_list(got.moves);
-    for (unsigned page = 0; page < 1u << level; page++) {
-        snprintf(bytes_of(got.node) + PAGE_BYTES * page, PAGE_BYTES, "%c%u", 'A' + tenant, page);
-    }
+    write_pages(tenant, got.node, 0);
     show(tenant, "gets", got);
+}
+
+/* An image gets a larger block, or a smaller one. Its old pages are free from the start, so what it wants to keep of them waits
+ * outside the reserve while the others move, and is set down last. */
+static void resize(uint16_t tenant, uint16_t level) {
+    size_t had = length_of(number(table + 2 * tenant));
+    memcpy(own, bytes_of(number(table + 2 * tenant)), had);
+    struct reserve_outcome got = reserve_grow(HEIGHT, table, sizeof table, moves, sizeof moves, tenant, level);
+    if (got.answer != RESERVE_DONE) exit(1);
+    work_list(got.moves);
+    memcpy(bytes_of(got.node), own, had < length_of(got.node) ? had : length_of(got.node));
+    write_pages(tenant, got.node, (unsigned)(had / PAGE_BYTES));
+    show(tenant, "has now", got);
 }
 
 /* An image gives up its block, whose bytes nobody needs any more, and the others close up. */
@@ -95,5 +115,7 @@ int main(void) {
     start(1, 0);
     start(2, 0);
     stop(1);
+    resize(2, 1);
+    resize(0, 0);
     return 0;
 }
