@@ -1,5 +1,5 @@
 // Reads journals that stand for the cases of the format, and prints a line for each record and for what ends the reading; then
-// writes records and prints the bytes. The file stdout holds what document 01 says of them.
+// writes records and prints the bytes. The file stdout holds what documents 01 and 02 say of them.
 use journal::Read;
 use journal::Record;
 use journal::Written;
@@ -17,8 +17,8 @@ fn main() {
 
 // Every field at its largest; then numbers whose two bytes differ.
 fn kinds() {
-    list(b"\x01\xff\x02\xff\xff\xff\x03\xff\xff\xff\xff\x04\xff\xff");
-    list(b"\x01\x00\x02\x02\x01\x03\x03\x02\x01\x04\x03\x04\x02\x01");
+    list(b"\x01\xff\x02\xff\xff\xff\x03\xff\xff\xff\xff\x04\xff\xff\x05\xff\xff\xff");
+    list(b"\x01\x00\x02\x02\x01\x03\x03\x02\x01\x04\x03\x04\x02\x01\x05\x02\x01\x03");
 }
 
 // What ends a reading: no journal, another kind first, an unknown kind, a record of each kind cut off, a second open, whole and
@@ -27,11 +27,12 @@ fn ends() {
     list(b"");
     list(b"\x02\x00\x00\x01");
     list(b"\x01\x05\x00\x00");
-    list(b"\x01\x05\x05");
+    list(b"\x01\x05\x06");
     list(b"\x01");
     list(b"\x01\x05\x02\x00\x00");
     list(b"\x01\x05\x03\x00\x00\x00");
     list(b"\x01\x05\x04\x00");
+    list(b"\x01\x05\x05\x00\x00");
     list(b"\x01\x05\x01\x05");
     list(b"\x01\x05\x01");
 }
@@ -75,6 +76,10 @@ fn writes() {
         pages: 772,
     });
     write_in_5(Record::Release { tenant: 4095 });
+    write_in_5(Record::Grow {
+        tenant: 258,
+        level: 3,
+    });
     write_in_4(Record::GrantLevel {
         tenant: 258,
         level: 3,
@@ -150,6 +155,12 @@ fn print_record(offset: usize, rec: Record) {
         Record::Release { tenant } => {
             text(b" release ");
             print(tenant as usize);
+        }
+        Record::Grow { tenant, level } => {
+            text(b" grow ");
+            print(tenant as usize);
+            text(b" level ");
+            print(level as usize);
         }
     }
     text(b"\n");
