@@ -7,13 +7,13 @@ ghost use lib.Seq.{paste};
 ghost use Rattle.lines.specs.Ascii.{bytes as Ascii·bytes};
 ghost use Rattle.lines.specs.Decimal.{decimal as Decimal·decimal};
 ghost use Rattle.lines.specs.Line.{spaced, separator, moveField};
-ghost use Rattle.lines.specs.Text.{Grown, Spells};
+ghost use Rattle.lines.specs.Text.{longest, Grown, Spells};
 use table::Move;
 
 // The most bytes of a text: the longest line has fewer.
-pub const LONGEST: usize = 128;
+pub const LONGEST: usize = 192;
 
-// At most 128 bytes: the first `n` of the buffer. The others are 0.
+// At most 192 bytes: the first `n` of the buffer. The others are 0.
 pub struct Text {
     pub n: usize,
     pub bytes: [u8; LONGEST],
@@ -32,7 +32,7 @@ impl Text {
 
     // The text with one byte more.
     pub fn push(self, byte: u8) -> Text
-        requires { ⌜ self .n + 1 ≤ 128 ⌝ }
+        requires { ⌜ self .n + 1 ≤ longest ⌝ }
         ensures { λ r. ⌜ Grown self (byte ∷ []) 1 r ⌝ }
     {
         let at = self.n;
@@ -43,7 +43,7 @@ impl Text {
 
     // The text with a number in decimal at its end.
     pub fn decimal(self, number: usize) -> Text
-        requires { ⌜ self .n + length (Decimal·decimal number) ≤ 128 ⌝ }
+        requires { ⌜ self .n + length (Decimal·decimal number) ≤ longest ⌝ }
         ensures { λ r. ⌜ Grown self (Decimal·decimal number) 20 r ⌝ }
     {
         if number < 10 {
@@ -54,7 +54,7 @@ impl Text {
 
     // The same with a number of 16 bits.
     pub fn short_decimal(self, number: u16) -> Text
-        requires { ⌜ self .n + 5 ≤ 128 ⌝ }
+        requires { ⌜ self .n + 5 ≤ longest ⌝ }
         ensures { λ r. ⌜ Grown self (Decimal·decimal number) 5 r ⌝ }
     {
         self.decimal(number as usize)
@@ -62,7 +62,7 @@ impl Text {
 
     // The text with one field more, which is one byte.
     pub fn letter(self, byte: u8) -> Text
-        requires { ⌜ self .n + 2 ≤ 128 ⌝ }
+        requires { ⌜ self .n + 2 ≤ longest ⌝ }
         ensures { λ r. ⌜ Grown self (spaced ((byte ∷ []) ∷ [])) 2 r ⌝ }
     {
         self.push(b' ').push(byte)
@@ -70,7 +70,7 @@ impl Text {
 
     // The text with one field more, in which there is nothing to say.
     pub fn dash(self) -> Text
-        requires { ⌜ self .n + 2 ≤ 128 ⌝ }
+        requires { ⌜ self .n + 2 ≤ longest ⌝ }
         ensures { λ r. ⌜ Grown self (spaced (Ascii·bytes "-" ∷ [])) 2 r ⌝ }
     {
         self.letter(b'-')
@@ -78,7 +78,7 @@ impl Text {
 
     // The text with one field more, which is a number.
     pub fn number(self, number: u16) -> Text
-        requires { ⌜ self .n + 6 ≤ 128 ⌝ }
+        requires { ⌜ self .n + 6 ≤ longest ⌝ }
         ensures { λ r. ⌜ Grown self (spaced (Decimal·decimal number ∷ [])) 6 r ⌝ }
     {
         self.push(b' ').short_decimal(number)
@@ -86,7 +86,7 @@ impl Text {
 
     // The text with one field more, which is a move.
     pub fn moved(self, m: Move) -> Text
-        requires { ⌜ self .n + 18 ≤ 128 ⌝ }
+        requires { ⌜ self .n + 18 ≤ longest ⌝ }
         ensures { λ r. ⌜ Grown self (spaced (moveField m ∷ [])) 18 r ⌝ }
     {
         let tenant = self.number(m.tenant);
@@ -96,7 +96,7 @@ impl Text {
 
     // Puts the text into lent bytes from an index on, and answers the index after it.
     pub fn put(self, out: &mut [u8], at: usize) -> usize
-        requires { ⌜ (self .n ≤ 128) × (at + self .n ≤ length (now out)) ⌝ }
+        requires { ⌜ (self .n ≤ longest) × (at + self .n ≤ length (now out)) ⌝ }
         ensures { λ r. ⌜ (r ≡ at + self .n) × (now (out .exit) ≡ paste (now (out .entry)) at (self .bytes) (self .n)) ⌝ }
     {
         let n = self.n;

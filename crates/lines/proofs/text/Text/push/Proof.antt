@@ -7,6 +7,7 @@ use borrow.Author.Needs.{needs}
 use lib.ListN.{length}
 use lib.Seq.{take-suc-set, drop-set-lt}
 use Rattle.table.proofs.Arrays.{length-of-mapped}
+use Rattle.lines.specs.Text.{longest}
 use Rattle.lines.proofs.text.Text.push.Statement.{statement}
 use Rattle.lines.proofs.text.Text.push.Tie as tie
 
@@ -19,7 +20,7 @@ add-t7 c = search needs
 returns : tie.Need-returns
 returns c =
     let a = c .before .args in
-    let long : _≡_ {A = ℕ} (length (a .self .bytes)) 128 = search length-of-mapped in
+    let long : _≡_ {A = ℕ} (length (a .self .bytes)) longest = search length-of-mapped in
     record {
       text = rw add-one (take-suc-set (a .self .bytes) (a .self .n) (a .byte) (omega arith));
       size = refl;

@@ -7,11 +7,12 @@ use lib.ListN.{length, length-set}
 use lib.Seq.{paste, paste-zero, paste-suc}
 use denote.Ref.{now}
 use Rattle.table.proofs.Arrays.{length-of-mapped}
+use Rattle.lines.specs.Text.{longest}
 use Rattle.lines.proofs.text.Text.put.Statement.{statement}
 use Rattle.lines.proofs.text.Text.put.Tie as tie
 
 abbrev Inv-loop : tie.InvT-loop
-Inv-loop out₀ at n bytes i₀ out i = (i ≤ n) × (length bytes ≡ 128) × (length out ≡ length out₀) × (out ≡ paste out₀ at bytes i)
+Inv-loop out₀ at n bytes i₀ out i = (i ≤ n) × (length bytes ≡ longest) × (length out ≡ length out₀) × (out ≡ paste out₀ at bytes i)
 
 abbrev μ-loop : tie.MeasureT-loop
 μ-loop out₀ at n bytes i₀ out i = n - i
@@ -19,7 +20,7 @@ abbrev μ-loop : tie.MeasureT-loop
 loop-holds : tie.Need-loop-holds Inv-loop μ-loop
 loop-holds c =
     let a = c .before .args in
-    let long : _≡_ {A = ℕ} (length (a .self .bytes)) 128 = search length-of-mapped in
+    let long : _≡_ {A = ℕ} (length (a .self .bytes)) longest = search length-of-mapped in
     (omega arith, long, refl, paste-zero (now (a .out)) (a .at) (a .self .bytes))
 
 array-read-out : tie.Need-array-read-out Inv-loop μ-loop
