@@ -60,7 +60,7 @@ fn put_move(list: &mut [u8], at: usize, m: Move)
 
 // Writes the moves of a plan from the front of the list, and leaves the bytes after them.
 pub fn put_moves(plan: Plan, list: &mut [u8])
-    requires { ⌜ (plan .n ≤ 4) × (32 ≤ length (now list)) ⌝ }
+    requires { ⌜ (plan .n ≤ 7) × (8 * plan .n ≤ length (now list)) ⌝ }
     ensures { λ _. ⌜ now (list .exit) ≡ moveBytes (movesIn plan) ++ drop (8 * length (movesIn plan)) (now (list .entry)) ⌝ }
 {
     let n = plan.n;

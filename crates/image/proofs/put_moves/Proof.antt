@@ -5,11 +5,11 @@ use mathlib.Core.List.{List, _++_}
 use Prim.Native.Nat.{ℕ, _+_, _*_, _-_, _≤_, _<_, zero-le}
 use native.Mathlib.Omega.{arith}
 use lib.ListN.{length, take, drop}
+use lib.Seq.{length-take-le}
 use Rattle.table.specs.declared.Move.{Move}
 use Rattle.table.proofs.Arrays.{length-of-mapped, take-own-length}
 use Rattle.image.specs.Image.{imageOf, numbersOf, moveBytes}
 use Rattle.image.proofs.Images.{put-more}
-use Rattle.image.proofs.Counts.{count-some}
 use Rattle.image.proofs.put_moves.Statement.{statement}
 use Rattle.image.proofs.put_moves.Tie as tie
 
@@ -50,7 +50,7 @@ loop-again c =
     let called = c .before .before .put-move in
     let k = at-loop .loop .k in
     let ms = start .args .plan .moves in
-    let long : _≡_ {A = ℕ} (length (start .args .plan .moves)) 4 = search length-of-mapped in
+    let long : _≡_ {A = ℕ} (length (start .args .plan .moves)) 7 = search length-of-mapped in
     let in-plan : k < length ms = omega (arith, start .pre .0) in
     let in-list : 8 * k + 8 ≤ length (start .args .list .now) = omega (arith, start .pre) in (
       omega arith,
@@ -68,8 +68,8 @@ returns c =
     let a = start .args in
     let n = a .plan .n in
     let ms = a .plan .moves in
-    let long : _≡_ {A = ℕ} (length (start .args .plan .moves)) 4 = search length-of-mapped in
-    let all : at-loop .loop .k ≡ length (take n ms) = omega (arith, count-some ms n long (start .pre .0)) in
+    let long : _≡_ {A = ℕ} (length (start .args .plan .moves)) 7 = search length-of-mapped in
+    let all : at-loop .loop .k ≡ length (take n ms) = omega (arith, length-take-le n ms (omega (arith, start .pre .0))) in
     at-loop .loop .inv .1
     ∙ ap (λ (k : ℕ). moveBytes (take k ms) ++ drop (8 * k) (a .list .now)) all
     ∙ ap (λ (l : List Move). moveBytes l ++ drop (8 * length (take n ms)) (a .list .now)) (take-own-length n ms)
