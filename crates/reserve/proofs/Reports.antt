@@ -1,7 +1,7 @@
 -- From what a call does to a table to what the door reports and leaves in the bytes.
 use mathlib.Core.Path.{_≡_, refl, sym, ap, _∙_}
 use mathlib.Core.List.{List, [], _++_, append-nil}
-use Prim.Native.Nat.{ℕ, _*_, _/_, _≤_}
+use Prim.Native.Nat.{ℕ, _*_, _≤_}
 use native.Mathlib.Omega.{arith}
 use native.Mathlib.Decide.{ℕ-discrete}
 use borrow.Author.Tests.{eq-eqb, ne-eqb}
@@ -14,10 +14,10 @@ use Rattle.calls.specs.declared.Answer.{Answer}
 use Rattle.calls.specs.declared.Called.{Called}
 use Rattle.calls.proofs.Given.{value-of-step, value-of-opening}
 use Rattle.calls.proofs.Opening.{opened-table, table-length}
-use Rattle.calls.proofs.Entries.{entriesOf, zero-passes, done-table, done-entries}
+use Rattle.calls.proofs.Entries.{zero-passes, done-table}
 use Rattle.image.specs.Image.{imageOf, tableOf, moveBytes}
 use Rattle.image.specs.Image.{Decoded}
-use Rattle.reserve.specs.Door.{imageAfter, Reported, Enough}
+use Rattle.reserve.specs.Door.{imageAfter, Reported}
 use Rattle.reserve.specs.declared.Outcome.{Outcome}
 use Rattle.image.proofs.Images.{table-of-other}
 
@@ -92,7 +92,7 @@ same-report o o′ {image} {list} a n m t p = record {
 pub front-count : {image nodes : List ℕ} {n : ℕ} → Decoded image nodes n → n ≡ length (take n nodes)
 front-count {image} {nodes} {n} d = sym (length-take-le n nodes (omega (arith, d .few, d .long)))
 
--- a grant or release that was asked of the front of the array
+-- a call that was asked of the front of the array
 module _ (h : ℕ) (c : Call) (called : Called) {image nodes after : List ℕ} {n : ℕ} (d : Decoded image nodes n)
     (kept : length after ≡ length (take n nodes)) (given : Gives (step h (take n nodes) c) called after) where
   met-on-table : valueOf called after ≡ step h (tableOf image) c
@@ -109,15 +109,8 @@ module _ (h : ℕ) (c : Call) (called : Called) {image nodes after : List ℕ} {
     whole = done-table h (tableOf image) c;
   }
 
-  pub call-finishes : (list : List ℕ) → entriesOf c ≡ length list / 8
-      → (length (after ++ drop n nodes) ≡ 4096) × Enough (numberOf (called .answer)) image list
-  call-finishes list e = (
-    array-length through,
-    record {
-      table = λ z. image-length-done through (sym answer-met ∙ z);
-      moves = λ z. omega (arith, done-entries h (tableOf image) c (sym answer-met ∙ z));
-    },
-  )
+  pub call-finishes : (length (after ++ drop n nodes) ≡ 4096) × (numberOf (called .answer) ≡ 0 → length image ≡ 8192)
+  call-finishes = (array-length through, λ z. image-length-done through (sym answer-met ∙ z))
 
   -- what is reported of the array is what is reported of the outcome
   pub call-reported : {list : List ℕ} {r : Outcome} {image′ list′ : List ℕ}

@@ -2,7 +2,7 @@
 use mathlib.Core.Path.{_≡_}
 use mathlib.Core.Bool.{cond}
 use mathlib.Core.List.{List, _++_}
-use Prim.Native.Nat.{ℕ, _*_, _/_, _≤_}
+use Prim.Native.Nat.{ℕ, _*_, _/_}
 use lib.Dec.{eqb}
 use lib.ListN.{length, drop}
 use Rattle.calls.specs.Call.{Call}
@@ -35,11 +35,6 @@ entriesIn list = length list / 8
 -- r, image′ and list′ are what the call at height h, given the list's entries, makes of the image and the list
 abbrev pub CalledOn : ℕ → (ℕ → Call) → List ℕ → List ℕ → Outcome → List ℕ → List ℕ → Type 0
 CalledOn h call image list r image′ list′ = Reported (step h (tableOf image) (call (entriesIn list))) image list r image′ list′
-
--- an answer 0 is given only where the bytes lent are enough
-pub record Enough (answer : ℕ) (image list : List ℕ) : Type 0 where
-  pub table : answer ≡ 0 → length image ≡ 8192
-  pub moves : answer ≡ 0 → 32 ≤ length list
 
 -- the count of a map
 abbrev pub countOf : Bits → Counted

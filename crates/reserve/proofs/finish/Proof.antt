@@ -3,10 +3,10 @@ use mathlib.Core.Path.{_≡_, sym, _∙_}
 use native.Mathlib.Omega.{arith}
 use Prim.Native.Nat.{ℕ}
 use lib.ListN.{length}
+use lib.Seq.{length-take-le}
 use Rattle.table.specs.Plan.{movesIn}
 use Rattle.calls.specs.Value.{numberOf, valueOf}
 use Rattle.table.proofs.Arrays.{length-of-mapped}
-use Rattle.image.proofs.Counts.{count-some}
 use Rattle.reserve.proofs.Reports.{report-refused, report-done}
 use borrow.Author.Needs.{needs}
 use Rattle.reserve.proofs.finish.Statement.{statement}
@@ -21,11 +21,11 @@ node-requires c κs = search needs
 cast-count : tie.Need-cast-count
 cast-count c = search needs
 
--- the array has four entries, so the count is that of the moves
+-- the array has room for them, so the count is that of the moves
 counted : (start : tie.Start) → start .args .called .plan .n ≡ length (movesIn (start .args .called .plan))
 counted start =
-    let long : _≡_ {A = ℕ} (length (start .args .called .plan .moves)) 4 = search length-of-mapped in
-    count-some (start .args .called .plan .moves) (start .args .called .plan .n) long (start .pre .1 .1)
+    let long : _≡_ {A = ℕ} (length (start .args .called .plan .moves)) 7 = search length-of-mapped in
+    sym (length-take-le (start .args .called .plan .n) (start .args .called .plan .moves) (omega (arith, start .pre .1 .1)))
 
 returns : tie.Need-returns
 returns c =
@@ -45,13 +45,11 @@ encode-requires : tie.Need-encode-requires
 encode-requires c κs =
     let x = c .before in
     let pre = x .before .before .before .before .before .before .before .pre in
-    (pre .0, pre .1 .0 .table (accepted x))
+    (pre .0, pre .1 .0 (accepted x))
 
 put-moves-requires : tie.Need-put-moves-requires
 put-moves-requires c κs =
-    let x = c .before .before .before .before .before in
-    let pre = x .before .before .before .before .before .before .before .pre in
-    (pre .1 .1, pre .1 .0 .moves (accepted x))
+    c .before .before .before .before .before .before .before .before .before .before .before .before .pre .1 .1
 
 same-length : tie.Need-same-length
 same-length c = search needs
