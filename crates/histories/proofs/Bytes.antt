@@ -8,15 +8,14 @@ use lib.Dec.{eqb}
 use lib.ListN.{length}
 use Rattle.calls.specs.Call.{Call}
 use Rattle.calls.specs.Step.{Outcome as Result, step, open-reserve}
-use Rattle.calls.specs.History.{History, tableFrom, answersFrom, tableAfter, answersOf, Book}
+use Rattle.calls.specs.History.{History, tableFrom, answersFrom, tableAfter, answersOf}
 use Rattle.calls.specs.Demand.{SameFate, Boxes}
-use Rattle.calls.proofs.Kept.{sound}
-use Rattle.calls.proofs.Cases.{Case, by-grant, by-release, by-refusal, case}
 use Rattle.calls.proofs.Demand.{kept-by-history, demand-3}
 use Rattle.image.specs.Image.{imageOf, tableOf}
 use Rattle.reserve.specs.Door.{imageAfter, Reported, entriesIn, CalledOn}
 use Rattle.reserve.specs.declared.Outcome.{Outcome}
 use Rattle.image.proofs.Images.{table-of-image}
+use Rattle.replay.proofs.Turns.{step-keeps}
 use Rattle.histories.specs.Bytes.{Led, opened, called, bookOf, SameReport, no-room, room, BytesOfBox, BytesDemand3}
 
 -- ---- one call more at the end
@@ -75,11 +74,6 @@ follows-opening h image image′ e f =
       answered = refl;
     }
 
-refused-leaves-table : (h : ℕ) (T : List ℕ) (c : Call) → Case h T c → ¬ (step h T c .answer ≡ 0) → step h T c .table ≡ T
-refused-leaves-table h T c (by-grant l g) q = absurd (q (ap (λ (o : Result). o .answer) (g .outcome)))
-refused-leaves-table h T c (by-release r) q = absurd (q (ap (λ (o : Result). o .answer) (r .outcome)))
-refused-leaves-table h T c (by-refusal n e) q = ap (λ (o : Result). o .table) e
-
 module _ (h : ℕ) (image list image′ list′ answers : List ℕ) (calls : List Call) (call : ℕ → Call) (r : Outcome)
     (F : Follows h image calls answers) (on : CalledOn h call image list r image′ list′) where
   abbrev T₀ : List ℕ
@@ -97,9 +91,7 @@ module _ (h : ℕ) (image list image′ list′ answers : List ℕ) (calls : Lis
       sym (ap length (table-of-one-more h T₀ calls c)) ∙ kept-by-history h H .entries
 
   image-next : IsImage image′ (step h T c .table)
-  image-next =
-      let kept = refused-leaves-table h T c (case h T (sound h T _ (kept-by-history h (history F))) c) in
-      rw (on .table, F .imaged .table) (image-after (step h T c) image T (F .imaged) entries kept)
+  image-next = rw (on .table, F .imaged .table) (image-after (step h T c) image T (F .imaged) entries (step-keeps h T c))
 
   answered-next : r .answer ≡ step h T c .answer
   answered-next = on .answer ∙ ap (λ (S : List ℕ). step h S c .answer) (F .imaged .table)
@@ -128,11 +120,11 @@ bytes-of-box h image answers calls F = record {
 
 -- ---- two boxes
 
-same-report : (h : ℕ) (B : Book) (l : ℕ) (o₁ o₂ : Result) (r₁ r₂ : Outcome) (image₁ image₂ list₁ list₂ image₁′ image₂′ list₁′ list₂′ : List ℕ)
-    → Reported o₁ image₁ list₁ r₁ image₁′ list₁′ → Reported o₂ image₂ list₂ r₂ image₂′ list₂′ → SameFate h B l o₁ o₂ → SameReport h B l r₁ r₂
-same-report h B l o₁ o₂ r₁ r₂ image₁ image₂ list₁ list₂ image₁′ image₂′ list₁′ list₂′ p₁ p₂ (SameFate.no-room a b n) =
+same-report : (N : Type 0) (most : ℕ) (o₁ o₂ : Result) (r₁ r₂ : Outcome) (image₁ image₂ list₁ list₂ image₁′ image₂′ list₁′ list₂′ : List ℕ)
+    → Reported o₁ image₁ list₁ r₁ image₁′ list₁′ → Reported o₂ image₂ list₂ r₂ image₂′ list₂′ → SameFate N most o₁ o₂ → SameReport N most r₁ r₂
+same-report N most o₁ o₂ r₁ r₂ image₁ image₂ list₁ list₂ image₁′ image₂′ list₁′ list₂′ p₁ p₂ (SameFate.no-room a b n) =
     no-room (p₁ .answer ∙ a) (p₂ .answer ∙ b) n
-same-report h B l o₁ o₂ r₁ r₂ image₁ image₂ list₁ list₂ image₁′ image₂′ list₁′ list₂′ p₁ p₂ (SameFate.room a b m k n) =
+same-report N most o₁ o₂ r₁ r₂ image₁ image₂ list₁ list₂ image₁′ image₂′ list₁′ list₂′ p₁ p₂ (SameFate.room a b m k n) =
     room (p₁ .answer ∙ a) (p₂ .answer ∙ b) (rw (p₁ .count) m) (rw (p₂ .count) k) n
 
 pub boxes-of-tables : (h : ℕ) (H₁ H₂ : History h) {T₁ T₂ answers₁ answers₂ : List ℕ} → T₁ ≡ tableAfter h H₁ → T₂ ≡ tableAfter h H₂
@@ -149,5 +141,7 @@ demand-3-of-bytes h image₁ image₂ answers₁ answers₂ calls₁ calls₂ le
       bytes-one = bytes-of-box h image₁ answers₁ calls₁ F₁;
       bytes-two = bytes-of-box h image₂ answers₂ calls₂ F₂;
       same-reports = λ e call₁ call₂ list₁ list₂ image₁′ image₂′ list₁′ list₂′ r₁ r₂ on₁ on₂ l a₁ a₂ v₁ v₂ n₁ n₂.
-          same-report h _ l _ _ r₁ r₂ _ _ _ _ _ _ _ _ on₁ on₂ (both .same-fate e _ _ l a₁ a₂ v₁ v₂ n₁ n₂);
+          same-report _ 3 _ _ r₁ r₂ _ _ _ _ _ _ _ _ on₁ on₂ (both .same-fate e _ _ l a₁ a₂ v₁ v₂ n₁ n₂);
+      same-growths = λ e call₁ call₂ list₁ list₂ image₁′ image₂′ list₁′ list₂′ r₁ r₂ on₁ on₂ l k g₁ g₂ v₁ v₂ n₁ n₂.
+          same-report _ 7 _ _ r₁ r₂ _ _ _ _ _ _ _ _ on₁ on₂ (both .same-growth e _ _ l k g₁ g₂ v₁ v₂ n₁ n₂);
     }

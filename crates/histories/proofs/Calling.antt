@@ -13,7 +13,7 @@ use Rattle.journal.specs.declared.Read.{Read}
 use Rattle.journal.specs.Format.{kindOf}
 use Rattle.journal.specs.Reader.{readAt}
 use Rattle.journal.specs.Journal.{CanStand}
-use Rattle.calls.specs.Call.{Call, grant-level, grant-pages, release}
+use Rattle.calls.specs.Call.{Call, grant-level, grant-pages, release, grow}
 use Rattle.calls.specs.Step.{Check, check, first, validity, holdings, checks, step}
 use Rattle.calls.proofs.Checks.{answer-is-first}
 use Rattle.replay.specs.Replay.{State, outcomeOf, heightAfter, listed, turn}
@@ -38,6 +38,7 @@ calling (Record.GrantLevel tenant level) at q s =
 calling (Record.GrantPages tenant pages) at q s =
     (grant-pages tenant pages 4, record { calls = λ rs. refl; outcome = λ h T. refl; height = λ h. refl })
 calling (Record.Release tenant) at q s = (release tenant 4, record { calls = λ rs. refl; outcome = λ h T. refl; height = λ h. refl })
+calling (Record.Grow tenant level) at q s = (grow tenant level 7, record { calls = λ rs. refl; outcome = λ h T. refl; height = λ h. refl })
 
 -- ---- its answer
 
@@ -64,6 +65,7 @@ later-above-one : (h : ℕ) (T : List ℕ) (c : Call) → above-one (later-check
 later-above-one h T (grant-level t l m) = refl
 later-above-one h T (grant-pages t p m) = refl
 later-above-one h T (release t m) = refl
+later-above-one h T (grow t l m) = refl
 
 checks-not-one : (h : ℕ) (T : List ℕ) (c : Call) → h ≤ 12 → ¬ (first (checks h T c) ≡ 1)
 checks-not-one h T c q = rw (le-ltb 12 h q) (first-not-one (later-checks h T c) (later-above-one h T c))

@@ -132,6 +132,7 @@ shows-first journal (Record.Open h) next rs last e s more = shows-open journal h
 shows-first journal (Record.GrantLevel tenant level) next rs last e s more = absurd (omega arith)
 shows-first journal (Record.GrantPages tenant pages) next rs last e s more = absurd (omega arith)
 shows-first journal (Record.Release tenant) next rs last e s more = absurd (omega arith)
+shows-first journal (Record.Grow tenant level) next rs last e s more = absurd (omega arith)
 
 pub listing-is-history : ListingIsHistory
 listing-is-history journal rs last (Reading.ends e) = shows-nothing-read journal Read.End e refl refl

@@ -24,6 +24,7 @@ calls-append (Record.Open height ∷ a) b = calls-append a b
 calls-append (Record.GrantLevel tenant level ∷ a) b = rw (calls-append a b)
 calls-append (Record.GrantPages tenant pages ∷ a) b = rw (calls-append a b)
 calls-append (Record.Release tenant ∷ a) b = rw (calls-append a b)
+calls-append (Record.Grow tenant level ∷ a) b = rw (calls-append a b)
 
 no-more-calls : (rs : List Record) → length (callsOf rs) ≤ length rs
 unfolding callsOf
@@ -32,6 +33,7 @@ no-more-calls (Record.Open height ∷ rs) = omega (arith, no-more-calls rs)
 no-more-calls (Record.GrantLevel tenant level ∷ rs) = omega (arith, no-more-calls rs)
 no-more-calls (Record.GrantPages tenant pages ∷ rs) = omega (arith, no-more-calls rs)
 no-more-calls (Record.Release tenant ∷ rs) = omega (arith, no-more-calls rs)
+no-more-calls (Record.Grow tenant level ∷ rs) = omega (arith, no-more-calls rs)
 
 one-call-each-before : (before after : List Record) → length (callsOf (before ++ after)) ≡ length (before ++ after)
     → length (callsOf before) ≡ length before

@@ -1,12 +1,13 @@
--- Demand 3 for the C door: two histories of lent bytes, led on by nothing but what the contracts of the exported functions say of the bytes.
+-- Demand 3 for the C door, with the growth of document 02, L5: two histories of lent bytes, led on by nothing but what the contracts of the
+-- exported functions say of the bytes.
 use mathlib.Core.Path.{_≡_}
 use mathlib.Core.List.{List, [], _∷_, _++_}
-use mathlib.Core.Option.{none}
+use mathlib.Core.Option.{none, some}
 use Prim.Native.Nat.{ℕ, _≤_}
-use Rattle.calls.specs.Call.{Call, grant-level, grant-pages, release, tenantOf}
+use Rattle.calls.specs.Call.{Call, grant-level, grant-pages, release, grow, tenantOf}
 use Rattle.calls.specs.Step.{step, open-reserve}
 use Rattle.calls.specs.History.{Book, bookFrom, held}
-use Rattle.calls.specs.Demand.{Valid, Asks, NoPlacement, Boxes}
+use Rattle.calls.specs.Demand.{Valid, Asks, Grows, NoPlacement, NoExchange, Boxes}
 use Rattle.image.specs.Image.{imageOf, tableOf}
 use Rattle.reserve.specs.Door.{imageAfter, entriesIn, CalledOn}
 use Rattle.reserve.specs.declared.Outcome.{Outcome}
@@ -16,6 +17,7 @@ pub data Exported : (ℕ → Call) → Type 0 where
   reserve-grant-level : (tenant level : ℕ) → Exported (grant-level tenant level)
   reserve-grant-pages : (tenant pages : ℕ) → Exported (grant-pages tenant pages)
   reserve-release : (tenant : ℕ) → Exported (release tenant)
+  reserve-grow : (tenant level : ℕ) → Exported (grow tenant level)
 
 -- A history of lent bytes at height h: the image now, the calls so far and the numbers that they reported, the last one at the end. It begins with
 -- a `reserve_open` that reported 0, on any bytes; then come calls on the image that the last one left, refused ones too, each with any list.
@@ -31,10 +33,10 @@ pub data Led (h : ℕ) : List ℕ → List Call → List ℕ → Type 0 where
 abbrev pub bookOf : ℕ → List Call → List ℕ → Book
 bookOf h calls answers = bookFrom h (λ t. none) calls answers
 
--- two reports: both "no room" and there is no legal placement, or both 0 and each with at most three moves
-pub data SameReport (h : ℕ) (B : Book) (l : ℕ) (one two : Outcome) : Type 0 where
-  no-room : one .answer ≡ 10 → two .answer ≡ 10 → NoPlacement h B l → SameReport h B l one two
-  room : one .answer ≡ 0 → two .answer ≡ 0 → one .moves ≤ 3 → two .moves ≤ 3 → ¬ NoPlacement h B l → SameReport h B l one two
+-- two reports: both "no room", and nothing is legal; or both 0, and each with at most so many moves
+pub data SameReport (nothing-legal : Type 0) (most : ℕ) (one two : Outcome) : Type 0 where
+  no-room : one .answer ≡ 10 → two .answer ≡ 10 → nothing-legal → SameReport nothing-legal most one two
+  room : one .answer ≡ 0 → two .answer ≡ 0 → one .moves ≤ most → two .moves ≤ most → ¬ nothing-legal → SameReport nothing-legal most one two
 
 -- the bytes of one box
 pub record BytesOfBox (h : ℕ) (image : List ℕ) : Type 0 where
@@ -55,7 +57,15 @@ pub record BoxesOfBytes (h : ℕ) (image₁ image₂ : List ℕ) (B₁ B₂ : Bo
       (r₁ r₂ : Outcome) → CalledOn h call₁ image₁ list₁ r₁ image₁′ list₁′ → CalledOn h call₂ image₂ list₂ r₂ image₂′ list₂′
       → (l : ℕ) → Asks h (call₁ (entriesIn list₁)) l → Asks h (call₂ (entriesIn list₂)) l
       → Valid h (call₁ (entriesIn list₁)) → Valid h (call₂ (entriesIn list₂))
-      → B₁ (tenantOf (call₁ (entriesIn list₁))) ≡ none → B₂ (tenantOf (call₂ (entriesIn list₂))) ≡ none → SameReport h B₁ l r₁ r₂
+      → B₁ (tenantOf (call₁ (entriesIn list₁))) ≡ none → B₂ (tenantOf (call₂ (entriesIn list₂))) ≡ none
+      → SameReport (NoPlacement h B₁ l) 3 r₁ r₂
+  -- and what two tenants of one level that grow to one level report
+  pub same-growths : ((l : ℕ) → held B₁ l ≡ held B₂ l) → (call₁ call₂ : ℕ → Call) (list₁ list₂ image₁′ image₂′ list₁′ list₂′ : List ℕ)
+      (r₁ r₂ : Outcome) → CalledOn h call₁ image₁ list₁ r₁ image₁′ list₁′ → CalledOn h call₂ image₂ list₂ r₂ image₂′ list₂′
+      → (l k : ℕ) → Grows (call₁ (entriesIn list₁)) l → Grows (call₂ (entriesIn list₂)) l
+      → Valid h (call₁ (entriesIn list₁)) → Valid h (call₂ (entriesIn list₂))
+      → B₁ (tenantOf (call₁ (entriesIn list₁))) ≡ some k → B₂ (tenantOf (call₂ (entriesIn list₂))) ≡ some k
+      → SameReport (NoExchange h B₁ (tenantOf (call₁ (entriesIn list₁))) l) 7 r₁ r₂
 
 -- demand 3 over bytes: what holds of the bytes and the books after any two such histories of one height
 abbrev pub BytesDemand3 : Type 0

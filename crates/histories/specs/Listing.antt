@@ -6,7 +6,7 @@ use lib.ListN.{length, replicate}
 use Rattle.journal.specs.declared.Record.{Record}
 use Rattle.journal.specs.declared.Read.{Read}
 use Rattle.journal.specs.Journal.{Reading}
-use Rattle.calls.specs.Call.{Call, grant-level, grant-pages, release}
+use Rattle.calls.specs.Call.{Call, grant-level, grant-pages, release, grow}
 use Rattle.calls.specs.Step.{Outcome, step, open-reserve}
 use Rattle.calls.specs.History.{History, tableAfter, Book}
 use Rattle.calls.specs.Demand.{Box, Boxes}
@@ -16,13 +16,14 @@ use Rattle.histories.specs.Bytes.{bookOf}
 
 -- ---- the history of a journal
 
--- the calls that records stand for, each with four move entries lent; an open stands for none
+-- the calls that records stand for, each with four move entries lent, or seven for a growth; an open stands for none
 unfoldable pub callsOf : List Record → List Call
 callsOf [] = []
 callsOf (Record.Open height ∷ rs) = callsOf rs
 callsOf (Record.GrantLevel tenant level ∷ rs) = grant-level tenant level 4 ∷ callsOf rs
 callsOf (Record.GrantPages tenant pages ∷ rs) = grant-pages tenant pages 4 ∷ callsOf rs
 callsOf (Record.Release tenant ∷ rs) = release tenant 4 ∷ callsOf rs
+callsOf (Record.Grow tenant level ∷ rs) = grow tenant level 7 ∷ callsOf rs
 
 -- the opening of an empty table at height h is accepted
 abbrev pub Opens : ℕ → Type 0
