@@ -14,7 +14,7 @@ use Rattle.journal.specs.declared.Read.{Read}
 use Rattle.journal.specs.Format.{who}
 use Rattle.journal.specs.Journal.{Reading}
 use Rattle.journal.proofs.Theorems.{next-offset}
-use Rattle.calls.specs.Call.{Call, grant-level, grant-pages, release, levelFor}
+use Rattle.calls.specs.Call.{Call, grant-level, grant-pages, release, grow, levelFor}
 use Rattle.calls.specs.Step.{Outcome, step, open-reserve}
 use Rattle.lines.specs.Ascii.{byte, bytes}
 use Rattle.lines.specs.Decimal.{decimal}
@@ -65,6 +65,8 @@ all-as-before h T (Record.GrantPages t (suc p) ∷ rs) =
     (all-as-before h (step h T (grant-pages t (suc p) 4) .table) rs)
 all-as-before h T (Record.Release t ∷ rs) =
     call-more h T (release t 4) (release t 4) _ _ refl (all-as-before h (step h T (release t 4) .table) rs)
+all-as-before h T (Record.Grow t l ∷ rs) =
+    call-more h T (grow t l 7) (grow t l 7) _ _ refl (all-as-before h (step h T (grow t l 7) .table) rs)
 
 -- ---- lines
 

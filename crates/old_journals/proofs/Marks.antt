@@ -37,12 +37,14 @@ letter-unmarked (Record.Open height) = ((λ e. omega arith), tt)
 letter-unmarked (Record.GrantLevel tenant level) = ((λ e. omega arith), tt)
 letter-unmarked (Record.GrantPages tenant pages) = ((λ e. omega arith), tt)
 letter-unmarked (Record.Release tenant) = ((λ e. omega arith), tt)
+letter-unmarked (Record.Grow tenant level) = ((λ e. omega arith), tt)
 
 size-unmarked : (r : Record) → Unmarked (size r)
 size-unmarked (Record.Open height) = hyphen-unmarked
 size-unmarked (Record.GrantLevel tenant level) = decimal-unmarked level
 size-unmarked (Record.GrantPages tenant pages) = decimal-unmarked pages
 size-unmarked (Record.Release tenant) = hyphen-unmarked
+size-unmarked (Record.Grow tenant level) = decimal-unmarked level
 
 done-unmarked : (answer node : ℕ) → Unmarked (nodeIfDone answer node)
 done-unmarked zero node = decimal-unmarked node
@@ -53,6 +55,7 @@ node-unmarked (Record.Open height) answer node = hyphen-unmarked
 node-unmarked (Record.GrantLevel tenant level) answer node = done-unmarked answer node
 node-unmarked (Record.GrantPages tenant pages) answer node = done-unmarked answer node
 node-unmarked (Record.Release tenant) answer node = done-unmarked answer node
+node-unmarked (Record.Grow tenant level) answer node = done-unmarked answer node
 
 separator-unmarked : (staged : ℕ) → Unmarked (separator staged ∷ [])
 separator-unmarked staged = go (eqb staged 0)

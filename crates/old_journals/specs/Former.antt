@@ -7,7 +7,7 @@ use Rattle.layout.specs.Set.{layoutSet}
 use Rattle.layout.specs.Change.{oneMore}
 use Rattle.table.specs.Table.{countsOf, in-order?}
 use Rattle.journal.specs.declared.Record.{Record}
-use Rattle.calls.specs.Call.{Call, grant-level, grant-pages, release, leastLevel}
+use Rattle.calls.specs.Call.{Call, grant-level, grant-pages, release, grow, leastLevel}
 use Rattle.calls.specs.Step.{Outcome, check, first, reserve-checks, list-checks, pages-check, grant-holdings, granted, unless, step, open-reserve}
 use Rattle.histories.specs.Listing.{callsOf, openLine, linesAfter}
 
@@ -20,14 +20,15 @@ formerLevel (suc p) = leastLevel (suc p + 1)
 unfoldable pub formerGrant : ℕ → List ℕ → ℕ → ℕ → ℕ → Outcome
 formerGrant h T t p m =
     let l = formerLevel p in
-    let checked = reserve-checks h T ++ list-checks t m ++ pages-check h p ∷ check 7 (not (in-order? h T)) ∷ grant-holdings h T t l in
+    let checked = reserve-checks h T ++ list-checks 4 t m ++ pages-check h p ∷ check 7 (not (in-order? h T)) ∷ grant-holdings h T t l in
     unless (first checked) T (granted h T (layoutSet h (oneMore (countsOf h T) l)) t l)
 
--- what a call did: the others did what they do
+-- what a call did: the others did what they do, and a growth, which no journal had, is taken to have done so too
 unfoldable pub formerStep : ℕ → List ℕ → Call → Outcome
 formerStep h T (grant-level t l m) = step h T (grant-level t l m)
 formerStep h T (grant-pages t p m) = formerGrant h T t p m
 formerStep h T (release t m) = step h T (release t m)
+formerStep h T (grow t l m) = step h T (grow t l m)
 
 -- what calls reported, each on the table that the last one left
 unfoldable pub formerFrom : ℕ → List ℕ → List Call → List Outcome
