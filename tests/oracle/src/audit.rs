@@ -3,7 +3,7 @@
 //! Nothing here plans: the moves are held against the differences of the tables and against the rules for who stays,
 //! who goes where, in which order, and how many may be moved at all; and they are carried out.
 
-use crate::book::occupied;
+use crate::book::{level_wanted, occupied};
 use crate::carrying::Move;
 use crate::definitions::{Node, Tree};
 use crate::occupancy::is_legal_and_safe;
@@ -16,6 +16,18 @@ pub const MOST_FOR_GRANT: usize = 3;
 
 /// The most tenants that a release may move.
 pub const MOST_FOR_RELEASE: usize = 4;
+
+/// The most others that a growth may move.
+pub const MOST_FOR_GROWTH: usize = 7;
+
+/// The most tenants that a call may move, its own left out.
+pub fn most_moves(request: Request) -> usize {
+    match request {
+        Request::GrantLevel { .. } | Request::GrantPages { .. } => MOST_FOR_GRANT,
+        Request::Release { .. } => MOST_FOR_RELEASE,
+        Request::Grow { .. } => MOST_FOR_GROWTH,
+    }
+}
 
 /// Whether a table may stay as it is, by the definitions alone; otherwise it is refused.
 pub fn is_in_order(tree: Tree, table: &[Node]) -> bool {
@@ -44,7 +56,7 @@ pub fn audit(tree: Tree, seen: &Seen) -> Result<(), String> {
         ensure!(seen.before == seen.after, "a refusal that changed the table");
         return Ok(());
     }
-    own_entry(seen)?;
+    own_entry(tree, seen)?;
     moves_are_the_differences(seen)?;
     movers_had_to_move(tree, seen)?;
     pairing_is_left_to_right(tree, seen)?;
@@ -54,26 +66,22 @@ pub fn audit(tree: Tree, seen: &Seen) -> Result<(), String> {
         seen.moves
     );
     carry_out(tree, seen.before, seen.after, seen.moves)?;
-    let most = if seen.request.is_grant() {
-        MOST_FOR_GRANT
-    } else {
-        MOST_FOR_RELEASE
-    };
-    ensure!(seen.moves.len() <= most, "{} tenants are moved", seen.moves.len());
+    let (moves, most) = (seen.moves.len(), most_moves(seen.request));
+    ensure!(moves <= most, "{moves} tenants are moved");
     Ok(())
 }
 
-/// The caller's own tenant gets, or gives up, just the node that is answered.
-fn own_entry(seen: &Seen) -> Result<(), String> {
+/// The caller's own tenant gets, or gives up, just the node that is answered; one that grows gets it for another.
+fn own_entry(tree: Tree, seen: &Seen) -> Result<(), String> {
     let tenant = seen.request.tenant() as usize;
     let entries = (seen.before[tenant], seen.after[tenant]);
-    let expected = if seen.request.is_grant() {
-        (0, seen.node)
-    } else {
-        (seen.node, 0)
+    let is_right = match seen.request {
+        Request::GrantLevel { .. } | Request::GrantPages { .. } => entries == (0, seen.node),
+        Request::Release { .. } => entries == (seen.node, 0),
+        Request::Grow { level, .. } => entries.0 != 0 && entries.1 == seen.node && tree.level(seen.node) == level,
     };
     ensure!(
-        seen.node != 0 && entries == expected,
+        seen.node != 0 && is_right,
         "tenant {tenant} went {entries:?} with node {} answered",
         seen.node
     );
@@ -117,7 +125,7 @@ fn movers_had_to_move(tree: Tree, seen: &Seen) -> Result<(), String> {
     Ok(())
 }
 
-/// Within a level nobody overtakes anybody, and the newcomer ends up rightmost.
+/// Within a level nobody overtakes anybody, and the tenant that gets a block there ends up right of all movers.
 fn pairing_is_left_to_right(tree: Tree, seen: &Seen) -> Result<(), String> {
     let mut left_to_right = seen.moves.to_vec();
     left_to_right.sort_unstable_by_key(|step| step.old);
@@ -130,14 +138,14 @@ fn pairing_is_left_to_right(tree: Tree, seen: &Seen) -> Result<(), String> {
             pair[1]
         );
     }
-    if seen.request.is_grant() {
+    if level_wanted(tree, seen.request).is_some() {
         let passed = seen
             .moves
             .iter()
             .any(|step| tree.level(step.new) == tree.level(seen.node) && step.new > seen.node);
         ensure!(
             !passed,
-            "the newcomer on {} is not the last of {:?}",
+            "the tenant on {} is not the last of {:?}",
             seen.node,
             seen.moves
         );

@@ -6,7 +6,7 @@
 use crate::definitions::{Counts, Node, Tree};
 use crate::lifting;
 use crate::occupancy::is_legal_and_safe;
-use crate::planner::{level_for_pages, too_many_pages, Request, FEWEST_ENTRIES, TENANTS};
+use crate::planner::{level_for_pages, too_many_pages, Request, TENANTS};
 use crate::refusal::{Refusal, DONE};
 
 #[derive(Clone, Debug)]
@@ -70,26 +70,35 @@ impl Book {
 
     fn why_not_valid(&self, request: Request, entries: usize) -> Option<Refusal> {
         let wrong_size = match request {
-            Request::GrantLevel { level, .. } if level > self.tree.height() => Some(Refusal::Level),
+            Request::GrantLevel { level, .. } | Request::Grow { level, .. } if level > self.tree.height() => {
+                Some(Refusal::Level)
+            }
             Request::GrantPages { pages, .. } if too_many_pages(self.tree, pages) => Some(Refusal::Pages),
             _ => None,
         };
         let conditions = [
-            (entries < FEWEST_ENTRIES).then_some(Refusal::MoveEntries),
+            (entries < request.fewest_entries()).then_some(Refusal::MoveEntries),
             (request.tenant() >= TENANTS as u32).then_some(Refusal::Tenant),
             wrong_size,
         ];
         conditions.into_iter().flatten().next()
     }
 
-    /// Why a valid request or release is still turned down.
+    /// Why a valid call is still turned down.
     fn why_not_granted(&self, request: Request) -> Option<Refusal> {
-        let holds = self.level_of(request.tenant()).is_some();
-        match level_wanted(self.tree, request) {
-            None => (!holds).then_some(Refusal::HoldsNothing),
-            Some(_) if holds => Some(Refusal::HoldsAlready),
-            Some(level) => (1 << level > self.room()).then_some(Refusal::NoRoom),
+        match (request.is_grant(), self.level_of(request.tenant())) {
+            (true, Some(_)) => Some(Refusal::HoldsAlready),
+            (false, None) => Some(Refusal::HoldsNothing),
+            _ => {
+                let wanted = level_wanted(self.tree, request)?;
+                (1 << wanted > self.room_for(request.tenant())).then_some(Refusal::NoRoom)
+            }
         }
+    }
+
+    /// The pages that nobody else holds.
+    pub fn room_for(&self, tenant: u32) -> u32 {
+        self.room() + self.level_of(tenant).map_or(0, |level| 1 << level)
     }
 
     /// Writes down what a call's number means.
@@ -97,9 +106,11 @@ impl Book {
         if answer != DONE {
             return;
         }
-        match level_wanted(self.tree, request) {
-            Some(level) => self.write_down(request.tenant(), level),
-            None => self.strike_out(request.tenant()),
+        if !request.is_grant() {
+            self.strike_out(request.tenant());
+        }
+        if let Some(level) = level_wanted(self.tree, request) {
+            self.write_down(request.tenant(), level);
         }
     }
 
@@ -134,10 +145,10 @@ impl Book {
     }
 }
 
-/// The level that a grant asks for.
+/// The level that a grant or a growth asks for.
 pub fn level_wanted(tree: Tree, request: Request) -> Option<u32> {
     match request {
-        Request::GrantLevel { level, .. } => Some(level),
+        Request::GrantLevel { level, .. } | Request::Grow { level, .. } => Some(level),
         Request::GrantPages { pages, .. } => Some(level_for_pages(tree, pages)),
         Request::Release { .. } => None,
     }

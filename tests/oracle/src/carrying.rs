@@ -2,8 +2,8 @@
 //!
 //! A list is carried out in this order: all who are staged leave their pages; the others go to their places one after
 //! the other, each onto pages on which nobody lies just then; those who are staged come back, by tenant number; and the
-//! newcomer comes last. Whoever is released is gone before that. Here it is done on a row of pages, for every set of
-//! movers that could be staged and every order of the rest.
+//! newcomer comes last. Whoever is released is gone before that; whoever grows is gone before that and comes last. Here it
+//! is done on a row of pages, for every set of movers that could be staged and every order of the rest.
 
 use crate::definitions::{Node, Tree};
 use crate::row::Row;
@@ -18,11 +18,11 @@ pub struct Move {
     pub staged: bool,
 }
 
-/// What a call changes: who lies where before it, who has to move, and who comes.
+/// What a call changes: who lies where before it, who has to move, and who comes or comes back.
 #[derive(Clone, Debug)]
 pub struct Change {
     tree: Tree,
-    /// The blocks that stay or move. A released one is in nobody's way.
+    /// The blocks that stay or move. One that is released, or given up for another, is in nobody's way.
     lying: Vec<Node>,
     /// By tenant number, and not yet staged.
     movers: Vec<Move>,
@@ -30,7 +30,7 @@ pub struct Change {
 }
 
 impl Change {
-    /// The change from the table before a call to the one after it.
+    /// The change from the table before a call to the one after it. The tenant that grows is the one whose level changes.
     pub fn between(tree: Tree, before: &[Node], after: &[Node]) -> Self {
         let mut change = Change {
             tree,
@@ -41,14 +41,14 @@ impl Change {
         for (tenant, (&old, &new)) in (0..).zip(before.iter().zip(after)) {
             match (old, new) {
                 (_, 0) => {}
-                (0, _) => change.newcomer = Some(new),
-                _ => change.add(tenant, old, new),
+                (1.., _) if tree.level(old) == tree.level(new) => change.add(tenant, old, new),
+                _ => change.newcomer = Some(new),
             }
         }
         change
     }
 
-    /// Adds a tenant that holds a block before the call and after it.
+    /// Adds a tenant that holds a block of the same level before the call and after it.
     fn add(&mut self, tenant: u16, old: Node, new: Node) {
         self.lying.push(old);
         if old != new {

@@ -1,14 +1,15 @@
 //! Histories, tables and journals made up from random numbers, leaning towards where planners go wrong.
 
 use std::fmt;
+use std::ops::RangeInclusive;
 
 use crate::book::Book;
 use crate::definitions::{Counts, Node, Tree, TALLEST};
 use crate::journal::{self, Reading, Record, LONGEST};
 use crate::lifting;
-use crate::planner::{Request, FEWEST_ENTRIES, TENANTS};
+use crate::planner::{Request, TENANTS};
 use crate::random::Random;
-use crate::subject::{Reach, FEWEST_MOVE_BYTES, MOVE_BYTES};
+use crate::subject::{fewest_move_bytes, Reach, MOVE_BYTES};
 
 /// A request with the length of the move list that is lent for it.
 #[derive(Clone, Copy, Debug, PartialEq, Eq)]
@@ -17,12 +18,37 @@ pub struct Call {
     pub move_bytes: usize,
 }
 
+impl Call {
+    /// A request with the shortest list that is taken.
+    pub fn with_shortest_list(request: Request) -> Self {
+        let move_bytes = fewest_move_bytes(request);
+        Call { request, move_bytes }
+    }
+}
+
 /// Somebody who holds a block of some level.
 #[derive(Clone, Copy, Debug, PartialEq, Eq)]
 pub struct Holder {
     pub tenant: u16,
     pub level: u32,
 }
+
+/// Growths that move the most others: from a reserve of at least some height, with these counts, those of the tenants of one
+/// level to another.
+pub struct MostMoved {
+    pub height: u32,
+    pub counts: Counts,
+    pub from: u32,
+    pub to: u32,
+}
+
+/// Seven others move for the first two of the three tenants of level 1, left to right, and six for the third.
+pub const MOST_MOVED: MostMoved = MostMoved {
+    height: 9,
+    counts: [3, 3, 3, 1, 3, 1, 1, 2, 0, 0, 0, 0, 0],
+    from: 1,
+    to: 5,
+};
 
 /// Calls one after the other on one table.
 #[derive(Clone, Debug)]
@@ -39,6 +65,7 @@ impl fmt::Display for Call {
             Request::GrantLevel { tenant, level } => write!(f, "grant tenant {tenant} level {level}")?,
             Request::GrantPages { tenant, pages } => write!(f, "grant tenant {tenant} pages {pages}")?,
             Request::Release { tenant } => write!(f, "release tenant {tenant}")?,
+            Request::Grow { tenant, level } => write!(f, "grow tenant {tenant} level {level}")?,
         }
         write!(f, ", {} move bytes", self.move_bytes)
     }
@@ -79,6 +106,14 @@ pub fn seat(tree: Tree, holders: &[Holder]) -> Vec<Node> {
         }
     }
     table
+}
+
+/// Every tenant that holds a block in a table, with every level that it is to grow to.
+pub fn growths(table: &[Node], levels: RangeInclusive<u32>) -> Vec<Request> {
+    let holders = (0..).zip(table).filter(|&(_, &node)| node != 0);
+    holders
+        .flat_map(|(tenant, _)| levels.clone().map(move |level| Request::Grow { tenant, level }))
+        .collect()
 }
 
 /// Tenants drawn at random for blocks of some counts, in random order.
@@ -170,7 +205,7 @@ impl<'a> Author<'a> {
     /// The next call, with its answer entered.
     pub fn call(&mut self) -> Call {
         let request = self.request();
-        let enough = FEWEST_MOVE_BYTES;
+        let enough = fewest_move_bytes(request);
         let move_bytes = if self.random.one_in(25) {
             self.random.pick(&[0, 1, MOVE_BYTES, enough - MOVE_BYTES, enough - 1])
         } else {
@@ -189,7 +224,7 @@ impl<'a> Author<'a> {
     /// The next request as a journal record, with its answer entered.
     pub fn record(&mut self) -> Record {
         let request = self.request();
-        let answer = self.book.answer(request, FEWEST_ENTRIES);
+        let answer = self.book.answer(request, request.fewest_entries());
         self.book.enter(request, answer);
         record_of(request)
     }
@@ -204,6 +239,7 @@ impl<'a> Author<'a> {
         match self.random.below(16) {
             0 => self.unfit_request(),
             1 => self.change_of_level(),
+            2..=4 => self.growth(),
             _ => self.everyday_request(),
         }
     }
@@ -232,6 +268,16 @@ impl<'a> Author<'a> {
         Request::Release { tenant }
     }
 
+    /// A growth up, down or to the same level.
+    fn growth(&mut self) -> Request {
+        let tenant = self.tenant_to_release();
+        let level = match self.book.level_of(tenant) {
+            Some(level) if self.random.one_in(6) => level,
+            _ => self.level_for(self.book.room_for(tenant)),
+        };
+        Request::Grow { tenant, level }
+    }
+
     /// Arguments that are out of range, one or all of them.
     fn unfit_request(&mut self) -> Request {
         let tree = self.book.tree();
@@ -240,7 +286,7 @@ impl<'a> Author<'a> {
         } else {
             self.random.below(self.crowd)
         };
-        match self.random.below(5) {
+        match self.random.below(7) {
             0 | 1 => Request::GrantLevel {
                 tenant,
                 level: self.above(tree.height(), self.reach.level),
@@ -248,6 +294,10 @@ impl<'a> Author<'a> {
             2 | 3 => Request::GrantPages {
                 tenant,
                 pages: self.above(tree.pages_in_all() - 1, self.reach.pages),
+            },
+            4 | 5 => Request::Grow {
+                tenant,
+                level: self.above(tree.height(), self.reach.level),
             },
             _ => Request::Release { tenant },
         }
@@ -301,10 +351,14 @@ impl<'a> Author<'a> {
         }
     }
 
-    /// A size that just fits, one that just does not, a small one, or any.
     fn level_to_grant(&mut self) -> u32 {
+        self.level_for(self.book.room())
+    }
+
+    /// A size that just fits into so many pages, one that just does not, a small one, or any.
+    fn level_for(&mut self, room: u32) -> u32 {
         let height = self.book.tree().height();
-        let largest = self.book.room().checked_ilog2();
+        let largest = room.checked_ilog2();
         match self.random.below(6) {
             0 => largest.unwrap_or(0),
             1 => largest.map_or(0, |level| level + 1).min(height),
@@ -325,6 +379,10 @@ fn record_of(request: Request) -> Record {
             pages: pages as u16,
         },
         Request::Release { tenant } => Record::Release { tenant: tenant as u16 },
+        Request::Grow { tenant, level } => Record::Grow {
+            tenant: tenant as u16,
+            level: level as u8,
+        },
     }
 }
 
@@ -379,11 +437,7 @@ pub fn steer(random: &mut Random, book: &mut Book, target: &Counts) -> Vec<Call>
         requests.push(Request::GrantLevel { tenant, level });
         book.enter(Request::GrantLevel { tenant, level }, 0);
     }
-    let move_bytes = FEWEST_MOVE_BYTES;
-    requests
-        .into_iter()
-        .map(|request| Call { request, move_bytes })
-        .collect()
+    requests.into_iter().map(Call::with_shortest_list).collect()
 }
 
 /// A way to spoil a table.

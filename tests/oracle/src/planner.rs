@@ -1,7 +1,9 @@
-//! Opening, both grants and the release, on a table of tenants.
+//! Opening, both grants, the release and the growth, on a table of tenants.
 //!
 //! A call is a function: it gets the table as it is and hands back the table as it will be. A refused call hands back
 //! the table it got.
+
+use std::mem;
 
 use crate::carrying::{Change, Move};
 use crate::definitions::{Counts, Node, Tree, TALLEST};
@@ -11,8 +13,9 @@ use crate::refusal::{self, Refusal};
 /// How many tenants there are, and so the only length a table may have.
 pub const TENANTS: usize = 4096;
 
-/// The fewest entries a lent list of moves may have.
+/// The fewest entries that a list of moves may have which is lent to a grant or a release, and to a growth.
 pub const FEWEST_ENTRIES: usize = 4;
+pub const FEWEST_ENTRIES_TO_GROW: usize = 7;
 
 /// What a tenant wants.
 #[derive(Clone, Copy, Debug, PartialEq, Eq)]
@@ -20,19 +23,35 @@ pub enum Request {
     GrantLevel { tenant: u32, level: u32 },
     GrantPages { tenant: u32, pages: u32 },
     Release { tenant: u32 },
+    /// A block of another level, larger or smaller, in the place of its own.
+    Grow { tenant: u32, level: u32 },
 }
 
 impl Request {
     pub fn tenant(self) -> u32 {
         match self {
-            Request::GrantLevel { tenant, .. } | Request::GrantPages { tenant, .. } | Request::Release { tenant } => {
-                tenant
-            }
+            Request::GrantLevel { tenant, .. }
+            | Request::GrantPages { tenant, .. }
+            | Request::Release { tenant }
+            | Request::Grow { tenant, .. } => tenant,
         }
     }
 
     pub fn is_grant(self) -> bool {
-        !matches!(self, Request::Release { .. })
+        matches!(self, Request::GrantLevel { .. } | Request::GrantPages { .. })
+    }
+
+    pub fn is_growth(self) -> bool {
+        matches!(self, Request::Grow { .. })
+    }
+
+    /// The fewest entries that the list may have which is lent for it.
+    pub fn fewest_entries(self) -> usize {
+        if self.is_growth() {
+            FEWEST_ENTRIES_TO_GROW
+        } else {
+            FEWEST_ENTRIES
+        }
     }
 }
 
@@ -101,7 +120,7 @@ pub fn open(height: u32, table: &[Node]) -> Outcome {
     outcome(table, plan)
 }
 
-/// Grants or releases.
+/// Grants, releases or grows.
 pub fn call(lent: Lent, request: Request) -> Outcome {
     call_under(Unnamed::SixteenPages, lent, request)
 }
@@ -160,14 +179,14 @@ pub(crate) fn check_reserve(height: u32, table: &[Node]) -> Result<Tree, Refusal
 
 /// The rest of the arguments, in the order of the numbers.
 fn check_request(tree: Tree, entries: usize, request: Request) -> Result<(), Refusal> {
-    if entries < FEWEST_ENTRIES {
+    if entries < request.fewest_entries() {
         return Err(Refusal::MoveEntries);
     }
     if request.tenant() as usize >= TENANTS {
         return Err(Refusal::Tenant);
     }
     match request {
-        Request::GrantLevel { level, .. } if level > tree.height() => Err(Refusal::Level),
+        Request::GrantLevel { level, .. } | Request::Grow { level, .. } if level > tree.height() => Err(Refusal::Level),
         Request::GrantPages { pages, .. } if too_many_pages(tree, pages) => Err(Refusal::Pages),
         _ => Ok(()),
     }
@@ -191,46 +210,75 @@ pub(crate) fn check_table(tree: Tree, table: &[Node]) -> Result<Counts, Refusal>
 fn plan(unnamed: Unnamed, lent: Lent, request: Request) -> Result<Plan, Refusal> {
     let tree = check_reserve(lent.height, lent.table)?;
     check_request(tree, lent.entries, request)?;
-    let counts = check_table(tree, lent.table)?;
+    let held = Held {
+        table: lent.table.to_vec(),
+        counts: check_table(tree, lent.table)?,
+    };
     let tenant = request.tenant() as usize;
     match request {
-        Request::GrantLevel { level, .. } => grant(tree, lent.table, counts, tenant, level),
-        Request::GrantPages { pages, .. } => {
-            let level = level_under(unnamed, tree, pages);
-            grant(tree, lent.table, counts, tenant, level)
-        }
-        Request::Release { .. } => release(tree, lent.table, counts, tenant),
+        Request::GrantLevel { level, .. } => grant(tree, held, tenant, level),
+        Request::GrantPages { pages, .. } => grant(tree, held, tenant, level_under(unnamed, tree, pages)),
+        Request::Release { .. } => release(tree, held, tenant),
+        Request::Grow { level, .. } => grow(tree, held, tenant, level),
     }
 }
 
-fn grant(tree: Tree, table: &[Node], mut counts: Counts, tenant: usize, level: u32) -> Result<Plan, Refusal> {
-    if table[tenant] != 0 {
+/// A table in order, and how many blocks it has at each level.
+#[derive(Clone)]
+struct Held {
+    table: Vec<Node>,
+    counts: Counts,
+}
+
+impl Held {
+    /// What the others hold, if this tenant holds a block too.
+    fn without(&self, tree: Tree, tenant: usize) -> Result<Held, Refusal> {
+        let Held { mut table, mut counts } = self.clone();
+        let node = mem::take(&mut table[tenant]);
+        if node == 0 {
+            return Err(Refusal::HoldsNothing);
+        }
+        counts[tree.level(node) as usize] -= 1;
+        Ok(Held { table, counts })
+    }
+}
+
+fn grant(tree: Tree, held: Held, tenant: usize, level: u32) -> Result<Plan, Refusal> {
+    if held.table[tenant] != 0 {
         return Err(Refusal::HoldsAlready);
     }
+    let before = held.table.clone();
+    let_in(tree, &before, held, tenant, level)
+}
+
+fn release(tree: Tree, held: Held, tenant: usize) -> Result<Plan, Refusal> {
+    let others = held.without(tree, tenant)?;
+    let settled = settle(tree, others.table, &others.counts);
+    assert!(settled.vacant.is_empty());
+    Ok(Plan::between(tree, held.table[tenant], &held.table, settled.table))
+}
+
+/// The tenant gives up its block and is let in again, while the others settle once. At its own level nobody has to move for
+/// that, and its old place is the one left over.
+fn grow(tree: Tree, held: Held, tenant: usize, level: u32) -> Result<Plan, Refusal> {
+    let others = held.without(tree, tenant)?;
+    let_in(tree, &held.table, others, tenant, level)
+}
+
+/// Gives a tenant a block beside those of the others.
+fn let_in(tree: Tree, before: &[Node], others: Held, tenant: usize, level: u32) -> Result<Plan, Refusal> {
+    let mut counts = others.counts;
     counts[level as usize] += 1;
     if tree.pages_taken(&counts) > tree.pages_in_all() {
         return Err(Refusal::NoRoom);
     }
-    let mut settled = settle(tree, table.to_vec(), &counts);
-    // The movers of the newcomer's level have taken their places; the one left over is the last.
+    let mut settled = settle(tree, others.table, &counts);
+    // The movers of this level have taken their places; the one left over is the last.
     let mut left_over = settled.vacant.iter().copied();
-    let node = left_over.next().expect("a place for the newcomer");
+    let node = left_over.next().expect("a place for the tenant");
     assert!(left_over.next().is_none() && tree.level(node) == level);
     settled.table[tenant] = node;
-    Ok(Plan::between(tree, node, table, settled.table))
-}
-
-fn release(tree: Tree, table: &[Node], mut counts: Counts, tenant: usize) -> Result<Plan, Refusal> {
-    let node = table[tenant];
-    if node == 0 {
-        return Err(Refusal::HoldsNothing);
-    }
-    counts[tree.level(node) as usize] -= 1;
-    let mut remaining = table.to_vec();
-    remaining[tenant] = 0;
-    let settled = settle(tree, remaining, &counts);
-    assert!(settled.vacant.is_empty());
-    Ok(Plan::between(tree, node, table, settled.table))
+    Ok(Plan::between(tree, node, before, settled.table))
 }
 
 /// The tenants of a table after they have gone to their places in a new layout.

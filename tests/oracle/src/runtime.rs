@@ -53,7 +53,7 @@ impl Pages {
 pub fn carry_out(tree: Tree, before: &[Node], after: &[Node], list: &[Move]) -> Result<(), String> {
     let (staged, direct): (Vec<Move>, Vec<Move>) = list.iter().partition(|step| step.staged);
     let mut pages = Pages::of(tree, before);
-    only_in(before, after).for_each(|(released, _)| pages.lift(released));
+    only_in(tree, before, after).for_each(|(tenant, _)| pages.lift(tenant));
     staged.iter().for_each(|step| pages.lift(step.tenant));
     for (place, step) in direct.iter().enumerate() {
         nobody_could_go_before(&pages, step, &direct[place..])?;
@@ -62,8 +62,8 @@ pub fn carry_out(tree: Tree, before: &[Node], after: &[Node], list: &[Move]) -> 
     for step in &staged {
         pages.set_down(step.tenant, step.new)?;
     }
-    for (newcomer, node) in only_in(after, before) {
-        pages.set_down(newcomer, node)?;
+    for (tenant, node) in only_in(tree, after, before) {
+        pages.set_down(tenant, node)?;
     }
     ensure!(
         pages == Pages::of(tree, after),
@@ -72,11 +72,12 @@ pub fn carry_out(tree: Tree, before: &[Node], after: &[Node], list: &[Move]) -> 
     Ok(())
 }
 
-/// Whoever has a node in one table and none in another.
-fn only_in<'a>(one: &'a [Node], other: &'a [Node]) -> impl Iterator<Item = (u16, Node)> + 'a {
+/// Whoever has a node in one table, and in another none or one of another level: the tenant that the call is for, unless it
+/// keeps its block.
+fn only_in<'a>(tree: Tree, one: &'a [Node], other: &'a [Node]) -> impl Iterator<Item = (u16, Node)> + 'a {
     let entries = (0..).zip(one.iter().zip(other));
     entries
-        .filter(|&(_, (&node, &there))| node != 0 && there == 0)
+        .filter(move |&(_, (&node, &there))| node != 0 && (there == 0 || tree.level(node) != tree.level(there)))
         .map(|(tenant, (&node, _))| (tenant, node))
 }
 

@@ -11,7 +11,7 @@ use crate::definitions::Node;
 use crate::journal::{self, Reading, Record};
 use crate::listing;
 use crate::page_map;
-use crate::planner::{self, Lent, Request, FEWEST_ENTRIES, TENANTS};
+use crate::planner::{self, Lent, Request, FEWEST_ENTRIES, FEWEST_ENTRIES_TO_GROW, TENANTS};
 use crate::refusal::{self, DONE};
 
 /// The only length of a table's image.
@@ -20,8 +20,14 @@ pub const TABLE_BYTES: usize = 2 * TENANTS;
 /// The length of one move's image.
 pub const MOVE_BYTES: usize = 8;
 
-/// The length of the shortest list of moves that is taken. It suffices for every call.
+/// The length of the shortest list of moves that a grant or a release takes, and a growth.
 pub const FEWEST_MOVE_BYTES: usize = FEWEST_ENTRIES * MOVE_BYTES;
+pub const FEWEST_MOVE_BYTES_TO_GROW: usize = FEWEST_ENTRIES_TO_GROW * MOVE_BYTES;
+
+/// The length of the shortest list of moves that is taken for a request.
+pub fn fewest_move_bytes(request: Request) -> usize {
+    request.fewest_entries() * MOVE_BYTES
+}
 
 /// What a planning call reports besides what it writes.
 #[derive(Clone, Copy, Debug, PartialEq, Eq)]
@@ -77,6 +83,8 @@ pub trait Subject {
 
     fn release(&mut self, height: u32, table: &mut [u8], moves: &mut [u8], tenant: u32) -> Reply;
 
+    fn grow(&mut self, height: u32, table: &mut [u8], moves: &mut [u8], tenant: u32, level: u32) -> Reply;
+
     /// Which pages a node covers in a reserve of a height; any number may be asked.
     fn node_pages(&mut self, height: u32, node: Node) -> Pages;
 
@@ -101,6 +109,7 @@ pub fn ask(subject: &mut dyn Subject, height: u32, table: &mut [u8], moves: &mut
         Request::GrantLevel { tenant, level } => subject.grant_level(height, table, moves, tenant, level),
         Request::GrantPages { tenant, pages } => subject.grant_pages(height, table, moves, tenant, pages),
         Request::Release { tenant } => subject.release(height, table, moves, tenant),
+        Request::Grow { tenant, level } => subject.grow(height, table, moves, tenant, level),
     }
 }
 
@@ -185,6 +194,10 @@ impl Subject for Oracle {
 
     fn release(&mut self, height: u32, table: &mut [u8], moves: &mut [u8], tenant: u32) -> Reply {
         Oracle::plan(height, table, moves, Request::Release { tenant })
+    }
+
+    fn grow(&mut self, height: u32, table: &mut [u8], moves: &mut [u8], tenant: u32, level: u32) -> Reply {
+        Oracle::plan(height, table, moves, Request::Grow { tenant, level })
     }
 
     fn node_pages(&mut self, height: u32, node: Node) -> Pages {

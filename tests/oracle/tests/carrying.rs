@@ -8,14 +8,14 @@ use std::collections::BTreeMap;
 use made_up::MadeUp;
 use oracle::carrying::{Change, Move};
 use oracle::definitions::{Node, Tree};
-use oracle::generate::{holders_for, seat};
-use oracle::planner::{self, Lent, Request, FEWEST_ENTRIES, TENANTS};
+use oracle::generate::{growths, holders_for, seat};
+use oracle::planner::{self, Lent, Request, TENANTS};
 use oracle::random::Random;
 use oracle::refusal::DONE;
 use oracle::runtime::{carry_out, staged_come_last};
 use small::trees_with_counts;
 
-/// Every grant and release on a table.
+/// Every grant, release and growth on a table.
 fn requests(table: &[Node], tree: Tree) -> Vec<Request> {
     let (holders, others): (Vec<u32>, Vec<u32>) = (0..TENANTS as u32).partition(|&tenant| table[tenant as usize] != 0);
     let releases = holders.into_iter().map(|tenant| Request::Release { tenant });
@@ -23,10 +23,10 @@ fn requests(table: &[Node], tree: Tree) -> Vec<Request> {
         tenant: others[0],
         level,
     });
-    releases.chain(grants).collect()
+    releases.chain(grants).chain(growths(table, tree.levels())).collect()
 }
 
-/// The change of every grant and release that is carried out on a tree up to height 5.
+/// The change of every call that is carried out on a tree up to height 5.
 fn every_change(mut each: impl FnMut(Request, &Change)) {
     let mut random = Random::new(31);
     for (tree, counts) in trees_with_counts(0..=5) {
@@ -35,7 +35,7 @@ fn every_change(mut each: impl FnMut(Request, &Change)) {
             let lent = Lent {
                 height: tree.height(),
                 table: &table,
-                entries: FEWEST_ENTRIES,
+                entries: request.fewest_entries(),
             };
             let outcome = planner::call(lent, request);
             if outcome.answer == DONE {
@@ -61,11 +61,13 @@ fn as_low_as_the_best<K: Ord>(change: &Change, part: impl Fn((usize, usize, Vec<
 fn small_reserves_stage_one_tenant_or_none() {
     let mut grants: BTreeMap<(usize, usize), u32> = BTreeMap::new();
     let mut releases = grants.clone();
+    let mut growths = grants.clone();
     every_change(|request, change| {
         let list = change.plan().expect("a list");
         let calls = match request {
+            Request::GrantLevel { .. } | Request::GrantPages { .. } => &mut grants,
             Request::Release { .. } => &mut releases,
-            _ => &mut grants,
+            Request::Grow { .. } => &mut growths,
         };
         *calls.entry((list.len(), staged(&list))).or_default() += 1;
     });
@@ -80,6 +82,7 @@ fn small_reserves_stage_one_tenant_or_none() {
     ];
     assert_eq!(grants, BTreeMap::from(of_grants));
     assert_eq!(releases, BTreeMap::from(of_releases));
+    assert_eq!(growths, BTreeMap::new());
 }
 
 /// On a small reserve the pages alone decide whom to stage, however the tenants are numbered.

@@ -151,6 +151,8 @@ enum Fault {
     HighByteOfTheTenantLost,
     FirstGrantAlone,
     RefusedGrantsLeftOut,
+    GrowthsLeftOut,
+    GrowthsBecomeGrants,
     // In what is refused.
     FrontWrittenBeforeTheRefusal,
     FrontKeptWithoutARefusal,
@@ -158,6 +160,7 @@ enum Fault {
     AnyHeightTaken,
     EmptyTaken,
     LongJournalTaken,
+    GrowthsUnknown,
     NothingSaid,
     SaidOnStandardOutput,
     OffsetInTheConverted,
@@ -165,7 +168,7 @@ enum Fault {
 }
 
 impl Fault {
-    const ALL: [Fault; 18] = [
+    const ALL: [Fault; 21] = [
         Fault::NothingConverted,
         Fault::OnePageToo,
         Fault::LowByteOfThePagesAlone,
@@ -174,12 +177,15 @@ impl Fault {
         Fault::HighByteOfTheTenantLost,
         Fault::FirstGrantAlone,
         Fault::RefusedGrantsLeftOut,
+        Fault::GrowthsLeftOut,
+        Fault::GrowthsBecomeGrants,
         Fault::FrontWrittenBeforeTheRefusal,
         Fault::FrontKeptWithoutARefusal,
         Fault::RefusedLinesRefuseAll,
         Fault::AnyHeightTaken,
         Fault::EmptyTaken,
         Fault::LongJournalTaken,
+        Fault::GrowthsUnknown,
         Fault::NothingSaid,
         Fault::SaidOnStandardOutput,
         Fault::OffsetInTheConverted,
@@ -193,8 +199,13 @@ impl Fault {
         let answers = text.lines().map(|line| line.split(' ').nth(4) == Some("0"));
         let mut before = 0;
         let become_bytes = |(record, is_done): (Record, bool)| {
-            let Record::GrantPages { tenant, pages } = record else {
-                return record.bytes();
+            let (tenant, pages) = match (self, record) {
+                (_, Record::GrantPages { tenant, pages }) => (tenant, pages),
+                (Fault::GrowthsLeftOut, Record::Grow { .. }) => return Vec::new(),
+                (Fault::GrowthsBecomeGrants, Record::Grow { tenant, level }) => {
+                    return Record::GrantLevel { tenant, level }.bytes();
+                }
+                _ => return record.bytes(),
             };
             let is_first = before == 0;
             before += usize::from(pages == 0);
@@ -228,7 +239,10 @@ impl Fault {
             Ok(_) if self == Fault::RefusedLinesRefuseAll && has_refused_lines(journal) => {
                 Left::refused(Stop { number: 9, offset: 0 })
             }
-            Ok(_) => Left::converted(self.out(journal)),
+            Ok(_) => match (self, first_growth(journal)) {
+                (Fault::GrowthsUnknown, Some(offset)) => Left::refused(Stop { number: 12, offset }),
+                _ => Left::converted(self.out(journal)),
+            },
             Err(stop) => {
                 let front = || convert(&journal[..stop.offset]).unwrap_or_default();
                 match (self, stop.number) {
@@ -256,6 +270,13 @@ impl Fault {
             }
         }
     }
+}
+
+/// The offset of the first growth.
+fn first_growth(journal: &[u8]) -> Option<usize> {
+    let records = records(journal);
+    let place = records.iter().position(|record| matches!(record, Record::Grow { .. }))?;
+    Some(records[..place].iter().map(|record| record.bytes().len()).sum())
 }
 
 fn has_refused_lines(journal: &[u8]) -> bool {

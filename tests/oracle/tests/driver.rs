@@ -3,6 +3,7 @@
 mod faulty;
 mod made_up;
 
+use faulty::growths::GrowthFault;
 use faulty::lists::{ListFault, Tables};
 use faulty::{Fault, Faulty, Narrow, ThirdOfItsSize};
 use made_up::MadeUp;
@@ -25,7 +26,7 @@ fn reported(subject: &mut dyn Subject, amounts: &Amounts) -> (Tally, String) {
 #[test]
 fn the_second_planner_agrees_with_itself() {
     let (tally, report) = reported(&mut Oracle, &Amounts::quick(21));
-    assert_eq!(tally, Tally { passed: 12, failed: 0 }, "{report}");
+    assert_eq!(tally, Tally { passed: 14, failed: 0 }, "{report}");
     assert!(
         report.lines().all(|line| line.ends_with("comparisons, seed 21")),
         "{report}"
@@ -58,6 +59,8 @@ found! {
     wrong_places_are_found: Fault::PLACES, ["every counts vector"];
     wrong_reports_are_found: Fault::REPORTS, ["every counts vector"];
     wrong_lists_are_found: ListFault::ON_RESERVES.map(Fault::List), ["every counts vector"];
+    wrong_growths_are_found: GrowthFault::ALL.map(Fault::Growth), ["every growth", "lists of growths"];
+    wrong_lists_of_growths_are_found: ListFault::ON_RESERVES.map(Fault::List), ["every growth"];
     wrong_refusals_are_found: Fault::REFUSALS,
         ["edges of the arguments", "every counts vector", "histories", "damaged tables"];
     wrong_sizes_are_found: Fault::SIZES, ["edges of the sizes"];
@@ -70,6 +73,7 @@ found! {
     /// Histories alone are enough as well, without the start from a prepared table.
     wrong_places_are_found_in_histories: Fault::PLACES, ["histories"];
     wrong_lists_are_found_in_histories: ListFault::ON_RESERVES.map(Fault::List), ["histories"];
+    wrong_growths_are_found_in_histories: GrowthFault::ALL.map(Fault::Growth), ["histories"];
 }
 
 /// The driver respects how far a door reaches.
@@ -82,7 +86,7 @@ fn no_number_is_handed_over_that_the_door_cannot_take() {
         ..Amounts::quick(25)
     };
     let (tally, report) = reported(&mut Narrow, &amounts);
-    assert_eq!(tally, Tally { passed: 12, failed: 0 }, "{report}");
+    assert_eq!(tally, Tally { passed: 14, failed: 0 }, "{report}");
 }
 
 #[test]

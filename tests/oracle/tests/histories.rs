@@ -7,10 +7,10 @@ use std::collections::{BTreeMap, BTreeSet};
 use oracle::audit::{audit, is_in_order, Seen, MOST_FOR_GRANT, MOST_FOR_RELEASE};
 use oracle::book::{occupied, Book};
 use oracle::definitions::{Node, Tree, TALLEST};
-use oracle::generate::{any_fill, history, history_on_full, holders_for, seat, steer, Call, Damage, History};
+use oracle::generate::{any_fill, growths, history, history_on_full, holders_for, seat, steer, Call, Damage, History};
 use oracle::planner::{self, Lent, Outcome, Request, TENANTS};
 use oracle::random::Random;
-use oracle::subject::{Oracle, Reach, Subject, FEWEST_MOVE_BYTES, MOVE_BYTES};
+use oracle::subject::{Oracle, Reach, Subject, MOVE_BYTES};
 use small::{trees, trees_with_counts};
 
 fn reach() -> Reach {
@@ -43,28 +43,40 @@ fn checked_call(book: &mut Book, table: &[Node], call: &Call) -> Outcome {
     outcome
 }
 
-/// What turned up in some histories: how often each number was answered, the most moves of each kind of call, and the most
-/// of one call that were staged.
+/// What turned up in some histories: how often each number was answered, and the most moves of each kind of call, with the
+/// most of one call that were staged.
 #[derive(Default)]
 struct Seldom {
     answers: BTreeMap<u32, usize>,
-    most_for_grant: usize,
-    most_for_release: usize,
-    most_staged: usize,
+    of_grant: Most,
+    of_release: Most,
+    of_growth: Most,
     full: usize,
+}
+
+#[derive(Debug, Default, PartialEq, Eq)]
+struct Most {
+    moves: usize,
+    staged: usize,
+}
+
+impl Most {
+    fn note(&mut self, outcome: &Outcome) {
+        self.moves = outcome.moves.len().max(self.moves);
+        let staged = outcome.moves.iter().filter(|step| step.staged).count();
+        self.staged = staged.max(self.staged);
+    }
 }
 
 impl Seldom {
     fn note(&mut self, book: &Book, call: &Call, outcome: &Outcome) {
         *self.answers.entry(outcome.answer).or_default() += 1;
-        let most = if call.request.is_grant() {
-            &mut self.most_for_grant
-        } else {
-            &mut self.most_for_release
+        let most = match call.request {
+            Request::GrantLevel { .. } | Request::GrantPages { .. } => &mut self.of_grant,
+            Request::Release { .. } => &mut self.of_release,
+            Request::Grow { .. } => &mut self.of_growth,
         };
-        *most = outcome.moves.len().max(*most);
-        let staged = outcome.moves.iter().filter(|step| step.staged).count();
-        self.most_staged = staged.max(self.most_staged);
+        most.note(outcome);
         self.full += usize::from(book.room() == 0);
     }
 }
@@ -139,26 +151,25 @@ fn histories_reach_every_answer_and_the_most_moves() {
     }
     assert!(seldom.answers[&0] * 2 > total, "{:?}", seldom.answers);
     assert!(seldom.full * 20 > total, "full {} times in {total}", seldom.full);
-    assert_eq!(seldom.most_for_grant, MOST_FOR_GRANT);
-    assert_eq!(seldom.most_for_release, MOST_FOR_RELEASE);
-    assert_eq!(seldom.most_staged, 1);
+    let most = |moves, staged| Most { moves, staged };
+    assert_eq!(seldom.of_grant, most(MOST_FOR_GRANT, 1));
+    assert_eq!(seldom.of_release, most(MOST_FOR_RELEASE, 1));
+    assert_eq!(seldom.of_growth, most(6, 2));
 }
 
-/// Every counts vector up to height 5 with every grant and every release; the audit has the bounds on the moves.
+/// Every counts vector up to height 5 with every grant, every release and every growth; the audit has the bounds on the moves.
 #[test]
-fn every_grant_and_release_up_to_height_5() {
+fn every_call_up_to_height_5() {
     let mut random = Random::new(14);
     let mut most_for_grant = 0;
     let mut most_for_release = 0;
+    let mut most_for_growth = 0;
     for (tree, counts) in trees_with_counts(0..=5) {
         let holders = holders_for(&mut random, &counts);
         let table = seat(tree, &holders);
         let book = Book::of_table(tree, &table);
         let moves = |request| {
-            let call = Call {
-                request,
-                move_bytes: FEWEST_MOVE_BYTES,
-            };
+            let call = Call::with_shortest_list(request);
             checked_call(&mut book.clone(), &table, &call).moves.len()
         };
         let newcomer = (0..TENANTS)
@@ -172,8 +183,13 @@ fn every_grant_and_release_up_to_height_5() {
             let tenant = holder.tenant.into();
             most_for_release = moves(Request::Release { tenant }).max(most_for_release);
         }
+        for request in growths(&table, tree.levels()) {
+            most_for_growth = moves(request).max(most_for_growth);
+        }
     }
     assert_eq!((most_for_grant, most_for_release), (MOST_FOR_GRANT, MOST_FOR_RELEASE));
+    // Seven others move on no reserve as small as these.
+    assert_eq!(most_for_growth, 5);
 }
 
 #[test]

@@ -3,14 +3,16 @@
 
 use oracle::carrying::Move;
 use oracle::definitions::{is_free, is_legal, Counts, Node, Tree};
-use oracle::generate::journal_of;
+use oracle::generate::{journal_of, MOST_MOVED};
 use oracle::journal::{self, Reading, Record, LONGEST};
 use oracle::lifting::layout;
 use oracle::listing::list;
 use oracle::page_map::{self, MAP_BYTES};
 use oracle::planner::{self, Lent, Outcome, Request, Unnamed, TENANTS};
 use oracle::refusal::Refusal;
-use oracle::subject::{moves_from, put_moves, Oracle, Subject, FEWEST_MOVE_BYTES, MOVE_BYTES};
+use oracle::subject::{
+    moves_from, put_moves, Oracle, Subject, FEWEST_MOVE_BYTES, FEWEST_MOVE_BYTES_TO_GROW, MOVE_BYTES,
+};
 
 /// Counts from those of the lowest levels.
 fn counts(lowest: &[u32]) -> Counts {
@@ -33,7 +35,7 @@ fn table(nodes: &[Node]) -> Vec<Node> {
 }
 
 fn call(height: u32, table: &[Node], request: Request) -> Outcome {
-    let entries = 4;
+    let entries = request.fewest_entries();
     planner::call(Lent { height, table, entries }, request)
 }
 
@@ -47,6 +49,10 @@ fn grant_pages(tenant: u32, pages: u32) -> Request {
 
 fn release(tenant: u32) -> Request {
     Request::Release { tenant }
+}
+
+fn grow(tenant: u32, level: u32) -> Request {
+    Request::Grow { tenant, level }
 }
 
 fn direct(tenant: u16, old: Node, new: Node) -> Move {
@@ -127,6 +133,112 @@ fn the_height_5_grant_and_release() {
     assert_eq!(released.table[77], 16);
 }
 
+/// On four pages: the others settle as if the tenant were not there, and it takes what nobody stays on.
+#[test]
+fn a_tenant_grows_and_shrinks() {
+    let held = table(&[4, 5, 3]);
+    // Two blocks of two pages and one of one are five pages.
+    assert_eq!(call(2, &held, grow(0, 1)).answer, 10);
+    let shrunk = call(2, &held, grow(2, 0));
+    assert_eq!((shrunk.answer, shrunk.node, shrunk.moves.len()), (0, 6, 0));
+    // The page of tenant 0 is free from the start, so tenant 2 goes there.
+    let grown = call(2, &shrunk.table, grow(0, 1));
+    assert_eq!((grown.answer, grown.node), (0, 3));
+    assert_eq!(grown.moves, [direct(2, 6, 4)]);
+    assert_eq!(grown.table[..3], [3, 5, 4]);
+}
+
+/// Somebody alone in the reserve: each block begins at the front, on its own old pages.
+#[test]
+fn a_tenant_may_grow_onto_its_own_pages() {
+    for height in 0..=12 {
+        let tree = Tree::new(height);
+        for from in tree.levels() {
+            let held = table(&[tree.nodes_at(from).start]);
+            for to in tree.levels() {
+                let outcome = call(height, &held, grow(0, to));
+                let node = tree.nodes_at(to).start;
+                assert_eq!((outcome.answer, outcome.node), (0, node), "{from} to {to} at height {height}");
+                assert_eq!((outcome.moves, outcome.table), (vec![], table(&[node])));
+            }
+            assert_eq!(call(height, &held, grow(0, height + 1)).answer, 5);
+            assert_eq!(call(height, &held, grow(1, from)).answer, 9);
+        }
+    }
+}
+
+/// A table in which tenants 0, 1, 2, .. hold the nodes of a layout, from the lowest number on.
+fn seated(height: u32, counts: &Counts) -> Vec<Node> {
+    table(&layout(Tree::new(height), counts).expect("counts that fit"))
+}
+
+/// A full reserve has room for smaller blocks and for none that is larger, and then the tenant keeps its own.
+#[test]
+fn pages_after_the_change_decide_whether_there_is_room() {
+    let full = seated(5, &counts(&[4, 2, 2, 2]));
+    for (tenant, node) in (0..).zip(full.iter().copied().take_while(|&node| node != 0)) {
+        let level = Tree::new(5).level(node);
+        for to in 0..=5 {
+            let outcome = call(5, &full, grow(tenant, to));
+            assert_eq!(outcome.answer, if to > level { 10 } else { 0 }, "tenant {tenant} to level {to}");
+            if to > level {
+                assert_eq!((outcome.node, outcome.moves.len(), &outcome.table), (0, 0, &full));
+            }
+        }
+    }
+    // The whole reserve has room where its own half is given up, and the other half is not held.
+    assert_eq!(call(5, &table(&[2, 3]), grow(0, 5)).answer, 10);
+    assert_eq!(call(5, &table(&[2]), grow(0, 5)).node, 1);
+}
+
+/// Its own level answers its node, moves nobody and changes nothing, whoever else is there.
+#[test]
+fn the_same_level_changes_nothing() {
+    for lowest in [&[4, 2, 2, 2][..], &[1, 1, 1, 1], &[3, 3, 3, 1], &[32]] {
+        let held = seated(5, &counts(lowest));
+        for (tenant, node) in (0..).zip(held.iter().copied().take_while(|&node| node != 0)) {
+            let outcome = call(5, &held, grow(tenant, Tree::new(5).level(node)));
+            assert_eq!((outcome.answer, outcome.node), (0, node));
+            assert_eq!((outcome.moves.len(), &outcome.table), (0, &held));
+        }
+    }
+}
+
+/// Seven entries are needed whatever the level, and whether or not anybody moves.
+#[test]
+fn fewer_than_56_bytes_are_too_short_a_list_for_a_growth() {
+    for (length, level) in (0..=72).flat_map(|length| [0, 1, 2].map(|level| (length, level))) {
+        let mut moves = vec![0xa5; length];
+        let mut image = vec![0; 2 * TENANTS];
+        image[0] = 2;
+        let reply = Oracle.grow(2, &mut image, &mut moves, 0, level);
+        assert_eq!(reply.answer, if length < 56 { 3 } else { 0 }, "{length} bytes, level {level}");
+        assert!(moves.iter().all(|&byte| byte == 0xa5));
+    }
+}
+
+/// The bound of seven is reached, also on taller reserves, and not from the third place.
+#[test]
+fn a_growth_moves_seven_others() {
+    for height in MOST_MOVED.height..=12 {
+        let tree = Tree::new(height);
+        let held = seated(height, &MOST_MOVED.counts);
+        let first = tree.nodes_at(MOST_MOVED.from).start;
+        for (node, moves) in [(first + 1, 7), (first + 2, 7), (first + 3, 6)] {
+            let tenant = held.iter().position(|&other| other == node).expect("a held node") as u32;
+            let outcome = call(height, &held, grow(tenant, MOST_MOVED.to));
+            assert_eq!((outcome.answer, outcome.moves.len()), (0, moves), "height {height}, node {node}");
+            let six = Lent {
+                height,
+                table: &held,
+                entries: 6,
+            };
+            assert_eq!(planner::call(six, grow(tenant, MOST_MOVED.to)).answer, 3);
+        }
+    }
+    assert_eq!(Tree::new(9).nodes_at(MOST_MOVED.from).start + 1, 257);
+}
+
 const JOURNAL: [u8; 22] = [1, 2, 2, 0, 0, 1, 2, 1, 0, 0, 2, 2, 0, 0, 4, 7, 0, 3, 3, 0, 1, 0];
 
 const LISTING: &str = "\
@@ -155,7 +267,7 @@ fn moves_are_four_numbers_of_two_bytes() {
     let bytes = [2, 1, 2, 0, 3, 0, 0, 0, 1, 0, 6, 0, 4, 16, 1, 0];
     assert_eq!(image, [&bytes[..], &[0xa5; 4]].concat()[..]);
     assert_eq!(moves_from(&image, 2), moves);
-    assert_eq!((MOVE_BYTES, FEWEST_MOVE_BYTES), (8, 32));
+    assert_eq!((MOVE_BYTES, FEWEST_MOVE_BYTES, FEWEST_MOVE_BYTES_TO_GROW), (8, 32, 56));
 }
 
 #[test]
@@ -176,7 +288,9 @@ fn listings_that_end_early() {
     assert_eq!(listing(&[1, 13, 9]), "! 0 1\n");
     assert_eq!(listing(&[1, 255]), "! 0 1\n");
     assert_eq!(listing(&[1, 12]), "1 O 12 - 0 - 0\n");
-    assert_eq!(listing(&[1, 0, 5]), "1 O 0 - 0 - 0\n! 2 12\n");
+    assert_eq!(listing(&[1, 0, 200]), "1 O 0 - 0 - 0\n! 2 12\n");
+    assert_eq!(listing(&[1, 0, 5]), "1 O 0 - 0 - 0\n! 2 13\n");
+    assert_eq!(listing(&[1, 0, 5, 0, 0]), "1 O 0 - 0 - 0\n! 2 13\n");
     assert_eq!(listing(&[1, 0, 4, 1]), "1 O 0 - 0 - 0\n! 2 13\n");
     assert_eq!(listing(&[1, 0, 1, 0]), "1 O 0 - 0 - 0\n! 2 14\n");
     assert_eq!(listing(&[1, 0, 1]), "1 O 0 - 0 - 0\n! 2 13\n");
@@ -192,7 +306,10 @@ fn refused_arguments_are_lines_of_the_listing() {
         vec![3, 255, 15, 0, 0],
         vec![2, 255, 15, 0],
         vec![4, 255, 255],
+        vec![5, 255, 15, 2],
+        vec![5, 0, 16, 2],
         vec![4, 255, 15],
+        vec![5, 255, 15, 0],
     ]
     .concat();
     let expected = "\
@@ -203,7 +320,10 @@ fn refused_arguments_are_lines_of_the_listing() {
 5 P 4095 0 0 1 0
 6 G 4095 0 8 - 0
 7 R 65535 - 4 - 0
-8 R 4095 - 0 1 0
+8 Z 4095 2 5 - 0
+9 Z 4096 2 4 - 0
+10 R 4095 - 0 1 0
+11 Z 4095 0 9 - 0
 ";
     assert_eq!(listing(&journal), expected);
 }
@@ -220,20 +340,24 @@ fn arguments_are_judged_in_the_order_of_their_numbers() {
         assert_eq!(outcome.table, table);
         outcome.answer
     };
-    for request in [grant(4096, 13), grant_pages(4096, 4097), release(4096)] {
+    for request in [grant(4096, 13), grant_pages(4096, 4097), release(4096), grow(4096, 13)] {
         assert_eq!(answer(13, &short, 3, request), 1);
         assert_eq!(answer(12, &short, 3, request), 2);
         assert_eq!(answer(12, &long, 3, request), 2);
         assert_eq!(answer(12, &[], 3, request), 2);
-        assert_eq!(answer(12, &ruined, 3, request), 3);
+        let enough = request.fewest_entries();
+        assert_eq!(answer(12, &ruined, enough - 1, request), 3);
         assert_eq!(answer(12, &ruined, 0, request), 3);
-        assert_eq!(answer(12, &ruined, 4, request), 4);
+        assert_eq!(answer(12, &ruined, enough, request), 4);
     }
     assert_eq!(answer(12, &ruined, 4, grant(4095, 13)), 5);
     assert_eq!(answer(12, &ruined, 4, grant_pages(4095, 4096)), 6);
     assert_eq!(answer(12, &ruined, 4, grant(4095, 12)), 7);
     assert_eq!(answer(12, &ruined, 4, grant_pages(4095, 4095)), 7);
     assert_eq!(answer(12, &ruined, 4, release(4095)), 7);
+    assert_eq!(answer(12, &ruined, 6, grow(4095, 13)), 3);
+    assert_eq!(answer(12, &ruined, 7, grow(4095, 13)), 5);
+    assert_eq!(answer(12, &ruined, 7, grow(4095, 12)), 7);
 }
 
 #[test]
@@ -376,11 +500,15 @@ fn the_table_is_judged_before_the_holdings() {
         assert_eq!(call(3, &wrong, grant(0, 0)).answer, 7);
         assert_eq!(call(3, &wrong, grant(9, 3)).answer, 7);
         assert_eq!(call(3, &wrong, release(9)).answer, 7);
+        assert_eq!(call(3, &wrong, grow(9, 3)).answer, 7);
+        assert_eq!(call(3, &wrong, grow(0, 0)).answer, 7);
     }
     let full = table(&[1]);
     assert_eq!(call(3, &full, grant(0, 0)).answer, 8);
     assert_eq!(call(3, &full, grant(1, 0)).answer, 10);
     assert_eq!(call(3, &full, release(1)).answer, 9);
+    assert_eq!(call(3, &full, grow(1, 3)).answer, 9);
+    assert_eq!(call(3, &full, grow(0, 3)).answer, 0);
 }
 
 #[test]
@@ -451,7 +579,8 @@ fn reader_refusals_in_their_order() {
     }
     assert_eq!(journal::read(&[1], 0), refused(Refusal::CutShort, 0));
     assert_eq!(journal::read(&[1, 9, 0], 2), refused(Refusal::UnknownKind, 2));
-    assert_eq!(journal::read(&[1, 9, 5, 1], 2), refused(Refusal::UnknownKind, 2));
+    assert_eq!(journal::read(&[1, 9, 200, 1], 2), refused(Refusal::UnknownKind, 2));
+    assert_eq!(journal::read(&[1, 9, 5, 0, 0], 2), refused(Refusal::CutShort, 2));
     assert_eq!(journal::read(&[1, 9, 3, 0, 0, 0], 2), refused(Refusal::CutShort, 2));
     assert_eq!(journal::read(&[1, 1], 1), refused(Refusal::CutShort, 1));
     assert_eq!(journal::read(&[1, 1, 1], 1), refused(Refusal::OpenAgain, 1));
@@ -488,8 +617,12 @@ fn every_record_fits_exactly_or_changes_nothing() {
             pages: 0xabcd,
         },
         Record::Release { tenant: 0x0102 },
+        Record::Grow {
+            tenant: 0x0102,
+            level: 255,
+        },
     ];
-    for (record, length) in records.into_iter().zip([2, 4, 5, 3]) {
+    for (record, length) in records.into_iter().zip([2, 4, 5, 3, 4]) {
         let mut lent = [0xa5; 8];
         assert_eq!(journal::write(&record, &mut lent[..length - 1]), Err(Refusal::TooSmall));
         assert_eq!(lent, [0xa5; 8]);
@@ -498,6 +631,7 @@ fn every_record_fits_exactly_or_changes_nothing() {
         assert_eq!(lent[length..], [0xa5; 8][length..]);
     }
     assert_eq!(records[2].bytes(), [3, 0x34, 0x12, 0xcd, 0xab]);
+    assert_eq!(records[4].bytes(), [5, 0x02, 0x01, 255]);
 }
 
 // Layouts and rules that look tidy and are wrong. Each is built here as somebody might, and must come out different.

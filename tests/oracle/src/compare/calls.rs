@@ -1,4 +1,4 @@
-//! Opening, granting and releasing: single calls, histories, and pairs of them.
+//! Opening, granting, releasing and growing: single calls, histories, and pairs of them.
 
 use std::fmt;
 
@@ -171,14 +171,23 @@ fn on_smallest_tree(history: History, fails: &mut impl FnMut(&History) -> bool) 
 /// Every counts vector of the small trees, with every grant and every release, and for each of these the movers numbered in
 /// every order.
 pub fn every_counts(subject: &mut dyn Subject, amounts: &Amounts, random: &mut Random) -> Result<usize, String> {
+    on_every_counts(subject, amounts, random, every_request)
+}
+
+/// Checks some requests on every counts vector of the small trees, with the movers of each numbered in every order.
+pub(super) fn on_every_counts(
+    subject: &mut dyn Subject,
+    amounts: &Amounts,
+    random: &mut Random,
+    requests: fn(&mut Random, Tree, &[Node]) -> Vec<Request>,
+) -> Result<usize, String> {
     let mut comparisons = 0;
-    for height in 0..=amounts.tallest_for_all_counts {
-        let tree = Tree::new(height);
+    for tree in (0..=amounts.tallest_for_all_counts).map(Tree::new) {
         for counts in tree.every_fitting_counts() {
             let holders = holders_for(random, &counts);
-            for request in every_request(random, tree, &seat(tree, &holders)) {
+            for request in requests(random, tree, &seat(tree, &holders)) {
                 for numbered in every_numbering(tree, &holders, request) {
-                    check_one(subject, height, &numbered, request)?;
+                    check_one(subject, tree.height(), &numbered, Call::with_shortest_list(request))?;
                     comparisons += 1;
                 }
             }
@@ -192,12 +201,8 @@ pub(super) fn check_one(
     subject: &mut dyn Subject,
     height: u32,
     holders: &[Holder],
-    request: Request,
+    call: Call,
 ) -> Result<(), String> {
-    let call = Call {
-        request,
-        move_bytes: FEWEST_MOVE_BYTES,
-    };
     let history = History {
         height,
         start: Some(holders.to_vec()),
@@ -206,9 +211,14 @@ pub(super) fn check_one(
     check_history(subject, &history).map(|_| ())
 }
 
+/// The tenants that hold a block, and those that hold none.
+pub(super) fn holders_and_others(table: &[Node]) -> (Vec<u32>, Vec<u32>) {
+    (0..TENANTS as u32).partition(|&tenant| table[tenant as usize] != 0)
+}
+
 /// Every grant and every release from a table, with the refused ones beside them.
 fn every_request(random: &mut Random, tree: Tree, table: &[Node]) -> Vec<Request> {
-    let (holders, others): (Vec<u32>, Vec<u32>) = (0..TENANTS as u32).partition(|&tenant| table[tenant as usize] != 0);
+    let (holders, others) = holders_and_others(table);
     let mut requests: Vec<Request> = holders.iter().map(|&tenant| Request::Release { tenant }).collect();
     let newcomer = random.pick(&others);
     requests.push(Request::Release { tenant: newcomer });
@@ -275,7 +285,7 @@ pub fn damaged_tables(subject: &mut dyn Subject, amounts: &Amounts, random: &mut
 }
 
 /// A request of each kind, from somebody who has an entry in the table or from anybody.
-fn requests_on(random: &mut Random, tree: Tree, table: &[Node]) -> [Request; 3] {
+fn requests_on(random: &mut Random, tree: Tree, table: &[Node]) -> [Request; 4] {
     let entered: Vec<u32> = (0..)
         .zip(table)
         .filter(|&(_, &node)| node != 0)
@@ -292,6 +302,7 @@ fn requests_on(random: &mut Random, tree: Tree, table: &[Node]) -> [Request; 3] 
         Request::GrantLevel { tenant, level },
         Request::GrantPages { tenant, pages },
         Request::Release { tenant },
+        Request::Grow { tenant, level },
     ]
 }
 
@@ -302,10 +313,7 @@ fn check_damaged(
     in_order: bool,
     request: Request,
 ) -> Result<(), String> {
-    let call = Call {
-        request,
-        move_bytes: FEWEST_MOVE_BYTES,
-    };
+    let call = Call::with_shortest_list(request);
     let mut finding =
         |table: &[Node]| same_call(subject, tree.height(), &table_image(table), &call).map(|same| same.reply.answer);
     match finding(table) {

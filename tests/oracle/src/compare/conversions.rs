@@ -204,14 +204,16 @@ fn with_all_fields(height: u8) -> Vec<u8> {
         }
         for level in [0, 1, 4, 12, 13, 255] {
             journal.extend(Record::GrantLevel { tenant, level }.bytes());
+            journal.extend(Record::Grow { tenant, level }.bytes());
             journal.extend(Record::Release { tenant }.bytes());
+            journal.extend(Record::Grow { tenant, level }.bytes());
         }
     }
     journal
 }
 
 /// An old journal with every kind of record, also of tenants that hold a block already, or hold none.
-const OLD: [u8; 46] = [
+const OLD: [u8; 54] = [
     1, 5, // open
     3, 7, 0, 0, 0, // one page for tenant 7
     2, 1, 0, 1, // level 1
@@ -223,13 +225,15 @@ const OLD: [u8; 46] = [
     2, 4, 0, 0, // level 0
     3, 255, 15, 0, 0, // one page for tenant 4095
     3, 0, 16, 0, 0, // one page for a tenant that there is not
+    5, 1, 0, 2, // growth to level 2
+    5, 7, 0, 0, // growth of nothing
 ];
 
 /// The same journal with each byte replaced, with each left out, and cut at each length.
 fn spoilt_everywhere(converter: &mut dyn Converter, _: &Amounts, _: &mut Random) -> Result<usize, String> {
     let places = 0..OLD.len();
     let replaced = places.clone().flat_map(|place| {
-        [0, 1, 2, 3, 4, 5, 13, 255].map(|value| {
+        [0, 1, 2, 3, 4, 5, 13, 200, 255].map(|value| {
             let mut journal = OLD.to_vec();
             journal[place] = value;
             journal
@@ -271,18 +275,22 @@ fn spoilt_journals(converter: &mut dyn Converter, amounts: &Amounts, random: &mu
 /// stays so, although the conversion would be short enough.
 fn edges(converter: &mut dyn Converter, _: &Amounts, _: &mut Random) -> Result<usize, String> {
     let heights = (0..=u8::MAX).map(|height| [&Record::Open { height }.bytes()[..], &[3, 7, 0, 0, 0]].concat());
-    let short: [&[u8]; 11] = [
+    let short: [&[u8]; 15] = [
         &[],
         &[0],
         &[1],
         &[3],
         &[3, 0, 0, 0, 0],
         &[1, 0],
+        &[5, 0, 0, 0],
         &[1, 13, 5],
+        &[1, 13, 200],
         &[1, 255, 1],
         &[1, 0, 1],
         &[1, 0, 1, 0],
         &[1, 0, 5],
+        &[1, 0, 5, 0, 0],
+        &[1, 0, 200],
     ];
     let long = (LONGEST - 1..=LONGEST + 2).chain([2 * LONGEST]).map(unnamed_of);
     let mut comparisons = check_all(converter, heights.chain(short.map(<[u8]>::to_vec)).chain(long))?;

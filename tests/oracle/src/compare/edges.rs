@@ -6,13 +6,10 @@ use crate::definitions::{Counts, Tree, TALLEST};
 use crate::generate::{any_fill, holders_for, Call};
 use crate::planner::{level_for_pages, Request, TENANTS};
 use crate::random::Random;
-use crate::subject::{Reach, Subject};
+use crate::subject::{fewest_move_bytes, Reach, Subject, MOVE_BYTES};
 
 /// The lengths of table images worth trying.
 const TABLE_LENGTHS: [usize; 7] = [0, 1, 8190, 8191, 8192, 8193, 8194];
-
-/// The lengths of move lists worth trying.
-const MOVE_LENGTHS: [usize; 5] = [0, 24, 31, 32, 33];
 
 /// Every argument at and beside its bounds, in all combinations, on an empty table and on a spoilt one.
 pub fn edges(subject: &mut dyn Subject, _: &Amounts, _: &mut Random) -> Result<usize, String> {
@@ -48,15 +45,17 @@ fn edge_calls(reach: Reach, height: u32) -> Vec<Call> {
     for tenant in tenants {
         requests.push(Request::Release { tenant });
         requests.extend(levels.iter().map(|&level| Request::GrantLevel { tenant, level }));
+        requests.extend(levels.iter().map(|&level| Request::Grow { tenant, level }));
         requests.extend(pages.iter().map(|&pages| Request::GrantPages { tenant, pages }));
     }
-    let with_length = |move_bytes| {
-        requests
-            .clone()
-            .into_iter()
-            .map(move |request| Call { request, move_bytes })
-    };
-    MOVE_LENGTHS.into_iter().flat_map(with_length).collect()
+    let with_lengths = |request| lengths_beside(request).map(|move_bytes| Call { request, move_bytes });
+    requests.into_iter().flat_map(with_lengths).collect()
+}
+
+/// The lengths of move lists worth trying: nothing, an entry or a byte too few, enough, and a byte more.
+fn lengths_beside(request: Request) -> [usize; 5] {
+    let enough = fewest_move_bytes(request);
+    [0, enough - MOVE_BYTES, enough - 1, enough, enough + 1]
 }
 
 /// Sizes at and beside the number of pages that there are.
@@ -102,7 +101,8 @@ fn check_size(
     let tenants = newcomer.into_iter().chain(holders.first().map(|holder| holder.tenant));
     let mut comparisons = 0;
     for tenant in tenants.map(u32::from) {
-        check_one(subject, tree.height(), &holders, Request::GrantPages { tenant, pages })?;
+        let call = Call::with_shortest_list(Request::GrantPages { tenant, pages });
+        check_one(subject, tree.height(), &holders, call)?;
         comparisons += 1;
     }
     Ok(comparisons)

@@ -35,6 +35,10 @@ pub fn records(subject: &mut dyn Subject, amounts: &Amounts, random: &mut Random
                 pages: other,
             },
             Record::Release { tenant: word },
+            Record::Grow {
+                tenant: word,
+                level: byte,
+            },
         ];
         // Long bytes are all the same to a record's fields, so a few records are enough there.
         let long = if round < 20 { &LONG[..] } else { &[] };
@@ -83,7 +87,7 @@ pub fn journals(subject: &mut dyn Subject, amounts: &Amounts, random: &mut Rando
 /// one after the other, or noise with a record of some kind at most offsets.
 fn journal_edges(subject: &mut dyn Subject, random: &mut Random) -> Result<usize, String> {
     let mut comparisons = 0;
-    let short: [&[u8]; 10] = [
+    let short: [&[u8]; 14] = [
         &[],
         &[0],
         &[1],
@@ -92,7 +96,11 @@ fn journal_edges(subject: &mut dyn Subject, random: &mut Random) -> Result<usize
         &[1, 255, 9],
         &[1, 0, 1],
         &[1, 0, 1, 0],
+        &[1, 0, 200],
         &[1, 0, 5],
+        &[1, 0, 5, 0, 0],
+        &[1, 0, 5, 0, 0, 0],
+        &[5, 0, 0, 0],
         &[1, 1, 1, 1, 1],
     ];
     for bytes in short {

@@ -6,6 +6,7 @@
 mod calls;
 pub mod conversions;
 mod edges;
+mod growths;
 mod journals;
 mod lent;
 mod maps;
@@ -28,7 +29,7 @@ pub use nodes::same_pages;
 #[derive(Clone, Debug)]
 pub struct Amounts {
     pub seed: u64,
-    /// Up to this height every counts vector is tried with every grant and release, and every order of the movers' numbers.
+    /// Up to this height every counts vector is tried with every grant, release and growth, and every order of the movers' numbers.
     pub tallest_for_all_counts: u32,
     /// Calls in histories that begin with an opening.
     pub calls_in_histories: usize,
@@ -108,7 +109,7 @@ pub struct Tally {
 /// One part of the comparison. It gives the number of comparisons, or what it found.
 type Part = fn(&mut dyn Subject, &Amounts, &mut Random) -> Result<usize, String>;
 
-const PARTS: [(&str, Part); 12] = [
+const PARTS: [(&str, Part); 14] = [
     ("edges of the arguments", edges::edges),
     ("every counts vector", calls::every_counts),
     ("histories", calls::histories),
@@ -121,6 +122,8 @@ const PARTS: [(&str, Part); 12] = [
     ("pages of nodes", nodes::nodes),
     ("edges of the sizes", edges::sizes),
     ("counts of maps", maps::counts),
+    ("every growth", growths::every_growth),
+    ("lists of growths", growths::lists),
 ];
 
 /// The random numbers of one part, the same whichever parts ran before.

@@ -2,7 +2,7 @@
 
 use crate::definitions::Tree;
 use crate::generate::{seat, Holder};
-use crate::planner::{self, Lent, Request, FEWEST_ENTRIES};
+use crate::planner::{self, Lent, Request};
 
 /// The holders as they are, and with those whom a request moves numbered among themselves in every other order. A grant by
 /// pages moves whom the one by level moves, so for it they are left as they are.
@@ -13,7 +13,7 @@ pub fn every_numbering(tree: Tree, holders: &[Holder], request: Request) -> Vec<
     let lent = Lent {
         height: tree.height(),
         table: &seat(tree, holders),
-        entries: FEWEST_ENTRIES,
+        entries: request.fewest_entries(),
     };
     let moves = planner::call(lent, request).moves;
     let movers: Vec<u16> = moves.iter().map(|step| step.tenant).collect();

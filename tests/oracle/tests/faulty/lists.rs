@@ -108,11 +108,11 @@ impl ListFault {
                 |_| true,
             ),
             ListFault::ReleasedBlockInTheWay => {
-                let released = only_in(tables.before, tables.after);
+                let released = only_in(tables.tree, tables.before, tables.after);
                 tables.by_waits(waits, |step| !released.is_some_and(|node| meet(node, step.new)))
             }
             ListFault::NewcomerBeforeTheOthers => {
-                let newcomer = only_in(tables.after, tables.before);
+                let newcomer = only_in(tables.tree, tables.after, tables.before);
                 tables.by_waits(waits, |step| !newcomer.is_some_and(|node| meet(node, step.old)))
             }
             ListFault::DirectByLevel => {
@@ -206,10 +206,11 @@ fn waits(one: &Move, other: &Move) -> bool {
     meet(one.new, other.old)
 }
 
-/// The node of whoever is in one table and not in another.
-fn only_in(one: &[Node], other: &[Node]) -> Option<Node> {
+/// The node of whoever is in one table and not in another, or there at another level.
+fn only_in(tree: Tree, one: &[Node], other: &[Node]) -> Option<Node> {
     let mut entries = one.iter().zip(other);
-    let (&node, _) = entries.find(|&(&node, &there)| node != 0 && there == 0)?;
+    let (&node, _) =
+        entries.find(|&(&node, &there)| node != 0 && (there == 0 || tree.level(node) != tree.level(there)))?;
     Some(node)
 }
 

@@ -1,7 +1,9 @@
 //! Planners that are right but for one mistake each, to see whether the driver notices.
 
+pub mod growths;
 pub mod lists;
 
+use growths::{GrowthFault, Other};
 use lists::{ListFault, Tables};
 use oracle::book::level_wanted;
 use oracle::carrying::Change;
@@ -11,7 +13,7 @@ use oracle::page_map::MAP_BYTES;
 use oracle::planner::Request;
 use oracle::refusal::{Refusal, DONE};
 use oracle::subject::{
-    ask, put_moves, table_from, table_image, Count, Oracle, Pages, Reach, Reply, Subject, FEWEST_MOVE_BYTES,
+    ask, fewest_move_bytes, moves_from, put_moves, table_from, table_image, Count, Oracle, Pages, Reach, Reply, Subject,
     MOVE_BYTES, TABLE_BYTES,
 };
 
@@ -38,6 +40,8 @@ pub enum Fault {
     ReleaseReportsNoNode,
     // Who is staged, and who goes before whom.
     List(ListFault),
+    // What becomes of a tenant that grows.
+    Growth(GrowthFault),
     // Who is turned down, and why.
     NoRoomToEveryone,
     NoRoomForTheLastPage,
@@ -90,12 +94,17 @@ pub enum Fault {
     RestOfTheBytesCleared,
     BytesFarBehindCleared,
     OneOffsetMisread,
+    GrowthUnknown,
+    GrowthWrittenWithoutItsLevel,
     // The listing.
     LineForTheRefusedOpening,
     RefusedCallsLeftOut,
     ZeroForNoNode,
     NothingBeforeAnEarlyEnd,
     StagedListedAsDirect,
+    GrowthListedAsGrant,
+    GrowthListedWithoutItsLevel,
+    FourEntriesLentToGrow,
 }
 
 impl Fault {
@@ -163,7 +172,7 @@ impl Fault {
         Fault::HighBitShiftedOut,
         Fault::ShortMapCounted,
     ];
-    pub const JOURNALS: [Fault; 11] = [
+    pub const JOURNALS: [Fault; 13] = [
         Fault::FirstKindBeforeLength,
         Fault::EndBeforeTheWholeJournal,
         Fault::LengthLeftOut,
@@ -175,13 +184,18 @@ impl Fault {
         Fault::RestOfTheBytesCleared,
         Fault::BytesFarBehindCleared,
         Fault::OneOffsetMisread,
+        Fault::GrowthUnknown,
+        Fault::GrowthWrittenWithoutItsLevel,
     ];
-    pub const LISTINGS: [Fault; 5] = [
+    pub const LISTINGS: [Fault; 8] = [
         Fault::LineForTheRefusedOpening,
         Fault::RefusedCallsLeftOut,
         Fault::ZeroForNoNode,
         Fault::NothingBeforeAnEarlyEnd,
         Fault::StagedListedAsDirect,
+        Fault::GrowthListedAsGrant,
+        Fault::GrowthListedWithoutItsLevel,
+        Fault::FourEntriesLentToGrow,
     ];
 }
 
@@ -215,10 +229,13 @@ impl Wrong<'_> {
             .unwrap_or_default();
         table.copy_from_slice(&table_image(after));
         put_moves(&list, moves);
-        let own = [self.before, after].map(|table| table[self.tenant()]);
+        let node = match after[self.tenant()] {
+            0 => self.before[self.tenant()],
+            node => node,
+        };
         Reply {
             answer: DONE,
-            node: own[0].max(own[1]).into(),
+            node: node.into(),
             moves: list.len() as u32,
         }
     }
@@ -241,17 +258,16 @@ impl Wrong<'_> {
         dealt
     }
 
-    /// Everybody at the places of a layout, at each level left to right as they stood, the newcomer last.
+    /// Everybody at the places of a layout, at each level left to right as they stood, the tenant that gets a block last.
     fn in_order(&self, layout: &[Node]) -> Vec<Node> {
-        let mut standing = self.before.to_vec();
-        let newcomer = level_wanted(self.tree, self.request);
-        standing[self.tenant()] = 0;
+        let standing = self.others();
+        let wanted = level_wanted(self.tree, self.request);
         let mut after = vec![0; standing.len()];
         for level in self.tree.levels() {
             let at_level = |node: Node| node != 0 && self.tree.level(node) == level;
             let mut tenants: Vec<usize> = (0..standing.len()).filter(|&t| at_level(standing[t])).collect();
             tenants.sort_by_key(|&tenant| standing[tenant]);
-            tenants.extend((newcomer == Some(level)).then_some(self.tenant()));
+            tenants.extend((wanted == Some(level)).then_some(self.tenant()));
             let places = layout.iter().copied().filter(|&node| at_level(node));
             for (tenant, place) in tenants.into_iter().zip(places) {
                 after[tenant] = place;
@@ -260,27 +276,37 @@ impl Wrong<'_> {
         after
     }
 
+    /// The places that changed hands, with the first one of its level for the tenant that asked for a block.
+    fn first_place_taken(&self, after: &[Node]) -> Vec<Node> {
+        self.dealt_again(after, |tenant| (tenant != self.tenant(), self.before[tenant]))
+    }
+
     fn counts_after(&self) -> Counts {
-        let held: Vec<Node> = self.before.iter().copied().filter(|&node| node != 0).collect();
-        let mut counts = self.tree.counts(&held);
-        match level_wanted(self.tree, self.request) {
-            Some(level) => counts[level as usize] += 1,
-            None => counts[self.tree.level(self.before[self.tenant()]) as usize] -= 1,
+        let others: Vec<Node> = self.others().into_iter().filter(|&node| node != 0).collect();
+        let mut counts = self.tree.counts(&others);
+        if let Some(level) = level_wanted(self.tree, self.request) {
+            counts[level as usize] += 1;
         }
         counts
+    }
+
+    /// The table without the caller's own tenant.
+    fn others(&self) -> Vec<Node> {
+        let mut others = self.before.to_vec();
+        others[self.tenant()] = 0;
+        others
     }
 
     fn fills_the_reserve(&self) -> bool {
         self.tree.pages_taken(&self.counts_after()) == self.tree.pages_in_all()
     }
 
-    /// The newcomer in the first gap of its size and everybody else where they are.
+    /// The tenant in the first gap of the size that it asks for, and everybody else where they are.
     fn in_the_gap(&self) -> Option<Vec<Node>> {
-        let mut after = self.before.to_vec();
-        after[self.tenant()] = match level_wanted(self.tree, self.request) {
-            Some(level) => leftmost_free(self.tree, self.before, level)?,
-            None => 0,
-        };
+        let mut after = self.others();
+        if let Some(level) = level_wanted(self.tree, self.request) {
+            after[self.tenant()] = leftmost_free(self.tree, &after, level)?;
+        }
         Some(after)
     }
 }
@@ -324,6 +350,15 @@ fn half_empty_lifted(tree: Tree, counts: &Counts) -> Vec<Node> {
     held
 }
 
+/// Asks the second planner with a list that is long enough, of which as much is handed back as was lent.
+fn into_longer_list(height: u32, table: &mut [u8], moves: &mut [u8], request: Request) -> Reply {
+    let mut longer = moves.to_vec();
+    longer.resize(fewest_move_bytes(request), 0);
+    let reply = ask(&mut Oracle, height, table, &mut longer, request);
+    moves.copy_from_slice(&longer[..moves.len()]);
+    reply
+}
+
 impl Faulty {
     fn plan(&self, height: u32, table: &mut [u8], moves: &mut [u8], request: Request) -> Reply {
         if let Some(reply) = self.wrong_before(height, table, moves, request) {
@@ -347,7 +382,7 @@ impl Faulty {
     /// Mistakes in the arguments and in the order of the checks.
     fn wrong_before(&self, height: u32, table: &mut [u8], moves: &mut [u8], request: Request) -> Option<Reply> {
         let reserve_is_fine = height <= 12 && table.len() == TABLE_BYTES;
-        let list_is_fine = moves.len() >= FEWEST_MOVE_BYTES;
+        let list_is_fine = moves.len() >= fewest_move_bytes(request);
         let tenant = request.tenant();
         let reply = match (self.0, request) {
             (Fault::TenantBeforeTheList, _) if reserve_is_fine && tenant > 4095 => refused(Refusal::Tenant),
@@ -370,14 +405,13 @@ impl Faulty {
             (Fault::LongerMoveListRefused, _) if !moves.len().is_multiple_of(MOVE_BYTES) => {
                 ask(&mut Oracle, height, table, &mut [], request)
             }
-            (Fault::ThreeEntriesTaken, _) if moves.len() / MOVE_BYTES == 3 => {
-                let mut longer = moves.to_vec();
-                longer.resize(FEWEST_MOVE_BYTES, 0);
-                let reply = ask(&mut Oracle, height, table, &mut longer, request);
-                moves.copy_from_slice(&longer[..moves.len()]);
-                reply
+            (Fault::ThreeEntriesTaken, _) if moves.len() / MOVE_BYTES == 3 && !request.is_growth() => {
+                into_longer_list(height, table, moves, request)
             }
             (Fault::TallerTreeTaken, _) if height == 13 => ask(&mut Oracle, 12, table, moves, request),
+            (Fault::Growth(fault), Request::Grow { tenant, level }) => {
+                return fault.instead(height, table, moves, tenant, level)
+            }
             (Fault::HoldingsBeforeTheTable, _) => return self.holdings_first(height, table, moves, request),
             (Fault::LegalTakenForSafe, _) => return self.legal_is_enough(height, table, moves, request),
             _ => return None,
@@ -421,7 +455,7 @@ impl Faulty {
     /// Takes every legal table, and releases from it.
     fn legal_is_enough(&self, height: u32, table: &mut [u8], moves: &mut [u8], request: Request) -> Option<Reply> {
         let reply = ask(&mut Oracle, height, &mut table.to_vec(), &mut moves.to_vec(), request);
-        if reply.answer != Refusal::Table.number() || request.is_grant() {
+        if reply.answer != Refusal::Table.number() || !matches!(request, Request::Release { .. }) {
             return None;
         }
         let tree = Tree::new(height);
@@ -464,10 +498,10 @@ impl Faulty {
         };
         match self.0 {
             Fault::MoversPairedByTenant => again(Some(
-                wrong.dealt_again(&after, |tenant| (wrong.before[tenant] == 0, tenant)),
+                wrong.dealt_again(&after, |tenant| (tenant == wrong.tenant(), tenant)),
             )),
             Fault::NewcomerPairedByTenant => again(Some(wrong.dealt_again(&after, |tenant| tenant))),
-            Fault::NewcomerTakesTheFirstPlace => again(Some(wrong.dealt_again(&after, |tenant| wrong.before[tenant]))),
+            Fault::NewcomerTakesTheFirstPlace if is_grant => again(Some(wrong.first_place_taken(&after))),
             Fault::NobodyStays => {
                 let mut layout: Vec<Node> = after.iter().copied().filter(|&node| node != 0).collect();
                 layout.sort_unstable();
@@ -502,6 +536,18 @@ impl Faulty {
                 entries.for_each(|entry| entry[6..].reverse());
                 reply
             }
+            Fault::Growth(fault) if wrong.request.is_growth() => {
+                match fault.when_done(wrong, &after, &moves_from(moves, reply.moves)) {
+                    Some(Other::Table(after)) => again(Some(after)),
+                    Some(Other::Refused) => again(None),
+                    Some(Other::List(list)) => {
+                        put_moves(&list, moves);
+                        let moves = list.len() as u32;
+                        Reply { moves, ..reply }
+                    }
+                    None => reply,
+                }
+            }
             Fault::List(fault) => {
                 let tables = Tables {
                     tree: wrong.tree,
@@ -515,7 +561,7 @@ impl Faulty {
                 moves[reply.moves as usize * MOVE_BYTES..].fill(0);
                 reply
             }
-            Fault::ReleaseReportsNoNode if !is_grant => Reply { node: 0, ..reply },
+            Fault::ReleaseReportsNoNode if matches!(wrong.request, Request::Release { .. }) => Reply { node: 0, ..reply },
             _ => reply,
         }
     }
@@ -563,6 +609,10 @@ impl Subject for Faulty {
 
     fn release(&mut self, height: u32, table: &mut [u8], moves: &mut [u8], tenant: u32) -> Reply {
         self.plan(height, table, moves, Request::Release { tenant })
+    }
+
+    fn grow(&mut self, height: u32, table: &mut [u8], moves: &mut [u8], tenant: u32, level: u32) -> Reply {
+        self.plan(height, table, moves, Request::Grow { tenant, level })
     }
 
     fn node_pages(&mut self, height: u32, node: Node) -> Pages {
@@ -638,6 +688,9 @@ impl Subject for Faulty {
             }
             Fault::RefusalAtTheWrongOffset if is(Refusal::CutShort) => refused(Refusal::CutShort, journal.len()),
             Fault::OneOffsetMisread if offset == 43_210 => Oracle.read(journal, offset + 1),
+            Fault::GrowthUnknown if matches!(honest, Reading::Record { record: Record::Grow { .. }, .. }) => {
+                refused(Refusal::UnknownKind, offset)
+            }
             _ => honest,
         }
     }
@@ -649,6 +702,7 @@ impl Subject for Faulty {
             (Fault::PartlyWritten, _) if answer != DONE && !lent.is_empty() => lent[0] = record.bytes()[0],
             (Fault::RestOfTheBytesCleared, _) if answer == DONE => lent[record.bytes().len()..].fill(0),
             (Fault::BytesFarBehindCleared, _) if lent.len() > 5_000 => lent[5_000..].fill(0),
+            (Fault::GrowthWrittenWithoutItsLevel, Record::Grow { .. }) if answer == DONE => lent[3] = 0,
             _ => {}
         }
         answer
@@ -666,9 +720,30 @@ impl Subject for Faulty {
                 lines.filter(|line| line.starts_with('!')).collect()
             }
             Fault::StagedListedAsDirect => honest.replace('=', ">"),
+            Fault::GrowthListedAsGrant => honest.replace(" Z ", " G "),
+            Fault::GrowthListedWithoutItsLevel => lines.map(without_the_level).collect(),
+            Fault::FourEntriesLentToGrow => lines.map(refused_for_its_list).collect(),
             _ => honest,
         };
         wrong.into_bytes()
+    }
+}
+
+/// A line about a growth with a hyphen for its level.
+fn without_the_level(line: &str) -> String {
+    let mut fields: Vec<&str> = line.split(' ').collect();
+    if fields.get(1) == Some(&"Z") {
+        fields[3] = "-";
+    }
+    fields.join(" ")
+}
+
+/// A line about a growth that was lent too short a list.
+fn refused_for_its_list(line: &str) -> String {
+    let fields: Vec<&str> = line.split(' ').collect();
+    match fields[..] {
+        [ordinal, "Z", tenant, level, ..] => format!("{ordinal} Z {tenant} {level} 3 - 0\n"),
+        _ => line.to_string(),
     }
 }
 
@@ -733,6 +808,10 @@ impl Subject for ThirdOfItsSize {
         Oracle.release(height, table, moves, tenant)
     }
 
+    fn grow(&mut self, height: u32, table: &mut [u8], moves: &mut [u8], tenant: u32, level: u32) -> Reply {
+        Oracle.grow(height, table, moves, tenant, level)
+    }
+
     fn node_pages(&mut self, height: u32, node: Node) -> Pages {
         Oracle.node_pages(height, node)
     }
@@ -791,6 +870,16 @@ impl Subject for Narrow {
 
     fn release(&mut self, height: u32, table: &mut [u8], moves: &mut [u8], tenant: u32) -> Reply {
         Oracle.release(eight_bits(height), table, moves, sixteen_bits(tenant))
+    }
+
+    fn grow(&mut self, height: u32, table: &mut [u8], moves: &mut [u8], tenant: u32, level: u32) -> Reply {
+        Oracle.grow(
+            eight_bits(height),
+            table,
+            moves,
+            sixteen_bits(tenant),
+            eight_bits(level),
+        )
     }
 
     fn node_pages(&mut self, height: u32, node: Node) -> Pages {

@@ -45,11 +45,13 @@ impl MadeUp {
             let level = tree.level(made_up.before[tenant]);
             made_up.after[tenant] = free_at(random, tree, &made_up.after, level)?;
         }
-        // One more is released, or comes, or neither.
-        match random.below(3) {
-            0 => made_up.before[*caller] = any_free(random, tree, &made_up.before)?,
-            1 => made_up.after[*caller] = any_free(random, tree, &made_up.after)?,
-            _ => {}
+        // One more is released, or comes, or neither, or grows; if its level stays the same it is one more mover.
+        let (released, comes) = random.pick(&[(true, false), (false, true), (false, false), (true, true)]);
+        if released {
+            made_up.before[*caller] = any_free(random, tree, &made_up.before)?;
+        }
+        if comes {
+            made_up.after[*caller] = any_free(random, tree, &made_up.after)?;
         }
         Some(made_up)
     }
