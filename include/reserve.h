@@ -107,8 +107,9 @@ extern "C" {
 /* The version of this interface. Whatever changes a layout, a signature, a constant or what a function does with the same
  * arguments raises it: the major number, and the minor one is then 0, if programs have to be changed or compiled again; the
  * minor number if something is only added. 2.0: a grant by pages has a guard page. 3.0: a move has a fourth number, and the
- * moves stand in an order in which they can be carried out. 4.0: a grant of 0 pages gets 16 pages, and no longer one. */
-#define RESERVE_VERSION_MAJOR 4
+ * moves stand in an order in which they can be carried out. 4.0: a grant of 0 pages gets 16 pages, and no longer one. 5.0: a
+ * tenant can grow or shrink, and a journal has records of that. */
+#define RESERVE_VERSION_MAJOR 5
 #define RESERVE_VERSION_MINOR 0
 #define RESERVE_VERSION (1000 * RESERVE_VERSION_MAJOR + RESERVE_VERSION_MINOR)
 
@@ -116,11 +117,12 @@ extern "C" {
 #define RESERVE_MAX_HEIGHT 12
 #define RESERVE_TENANTS 4096
 
-/* The bytes of a table, of one move, of the moves that have to be lent to a grant or a release (at least), of a page map,
- * and of the longest record. */
+/* The bytes of a table, of one move, of the moves that have to be lent to a grant or a release (at least) and to a growth, of a
+ * page map, and of the longest record. */
 #define RESERVE_TABLE_BYTES 8192
 #define RESERVE_MOVE_BYTES 8
 #define RESERVE_MOVES_BYTES 32
+#define RESERVE_GROW_MOVES_BYTES 56
 #define RESERVE_MAP_BYTES 512
 #define RESERVE_RECORD_BYTES 5
 
@@ -132,7 +134,7 @@ enum reserve_answer {
     RESERVE_DONE = 0,
     RESERVE_REFUSED_HEIGHT = 1,        /* the height is above 12 */
     RESERVE_REFUSED_TABLE_LENGTH = 2,  /* the table is not of 8192 bytes */
-    RESERVE_REFUSED_MOVES = 3,         /* fewer than 32 bytes are lent for the moves */
+    RESERVE_REFUSED_MOVES = 3,         /* fewer than 32 bytes are lent for the moves, or fewer than 56 for those of a growth */
     RESERVE_REFUSED_TENANT = 4,        /* the tenant is above 4095 */
     RESERVE_REFUSED_LEVEL = 5,         /* the level is above the height */
     RESERVE_REFUSED_PAGES = 6,         /* the pages with their guard page are more than the reserve has: 2^h or more are named */
@@ -154,7 +156,8 @@ enum reserve_kind {
     RESERVE_KIND_OPEN = 1,        /* height, one byte */
     RESERVE_KIND_GRANT_LEVEL = 2, /* tenant, two bytes; level, one byte */
     RESERVE_KIND_GRANT_PAGES = 3, /* tenant, two bytes; pages, two bytes */
-    RESERVE_KIND_RELEASE = 4      /* tenant, two bytes */
+    RESERVE_KIND_RELEASE = 4,     /* tenant, two bytes */
+    RESERVE_KIND_GROW = 5         /* tenant, two bytes; level, one byte */
 };
 
 /* What a grant or a release reports. */
@@ -209,6 +212,10 @@ struct reserve_outcome reserve_grant_pages(uint16_t height, uint8_t *table, size
 struct reserve_outcome reserve_release(uint16_t height, uint8_t *table, size_t table_length, uint8_t *moves,
                                        size_t moves_length, uint16_t tenant);
 
+/* Gives a tenant a block of 2^level pages for the one that it has. Answers 0, or 1 to 5, 7, 9 or 10. */
+struct reserve_outcome reserve_grow(uint16_t height, uint8_t *table, size_t table_length, uint8_t *moves,
+                                    size_t moves_length, uint16_t tenant, uint16_t level);
+
 /* The pages that a node covers in a reserve of this height. Answers 0; 1; or 7 if the tree has no such node: 0, or above
  * 2^(h+1) - 1. */
 struct reserve_pages reserve_node_pages(uint16_t height, uint16_t node);
@@ -224,11 +231,12 @@ struct reserve_counted reserve_count(const uint8_t *map, size_t map_length);
  * stand, whether or not a call would take them. */
 struct reserve_reading reserve_read(const uint8_t *journal, size_t journal_length, size_t offset);
 
-/* Each writes one record at the front of the lent bytes and leaves those after it: 2, 4, 5 and 3 bytes. Answers 0 or 15. */
+/* Each writes one record at the front of the lent bytes and leaves those after it: 2, 4, 5, 3 and 4 bytes. Answers 0 or 15. */
 struct reserve_written reserve_write_open(uint8_t height, uint8_t *out, size_t out_length);
 struct reserve_written reserve_write_grant_level(uint16_t tenant, uint8_t level, uint8_t *out, size_t out_length);
 struct reserve_written reserve_write_grant_pages(uint16_t tenant, uint16_t pages, uint8_t *out, size_t out_length);
 struct reserve_written reserve_write_release(uint16_t tenant, uint8_t *out, size_t out_length);
+struct reserve_written reserve_write_grow(uint16_t tenant, uint8_t level, uint8_t *out, size_t out_length);
 
 #ifdef __cplusplus
 }

@@ -32,6 +32,10 @@ def release(tenant):
     return struct.pack("<BH", 4, tenant)
 
 
+def growth(tenant, level):
+    return struct.pack("<BHB", 5, tenant, level)
+
+
 # Programs
 
 

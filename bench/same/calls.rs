@@ -1,11 +1,11 @@
-//! Grants and releases whose arguments are valid, over a decoded table.
+//! Grants, releases and growths whose arguments are valid, over a decoded table.
 
 use crate::layout::{layout, total};
 use crate::plan::{plan_moves, Plan};
 use crate::survey::survey;
 use crate::{NODES, TENANTS};
 
-/// What an accepted call does: the newcomer's node or the one given up, and the moves.
+/// What an accepted call does: the node that the tenant gets, or the one that it gives up with a release, and the moves.
 pub struct Done {
     pub node: u16,
     pub plan: Plan,
@@ -41,12 +41,37 @@ pub fn release(height: u16, table: &mut [u16; TENANTS], tenant: u16) -> Result<D
         return Err(9);
     }
     let old = layout(&counts);
-    counts[usize::from(height - node.ilog2() as u16)] -= 1;
+    counts[level_of(height, node)] -= 1;
     let new = layout(&counts);
     let (plan, _) = plan_moves(height, &old, &new, node, None, &owners);
     table[usize::from(tenant)] = 0;
     carry_out(table, &plan);
     Ok(Done { node, plan })
+}
+
+/// Gives the tenant a block of the level for its own, or gives the number of the refusal.
+pub fn grow(height: u16, table: &mut [u16; TENANTS], tenant: u16, level: u16) -> Result<Done, u16> {
+    let mut owners = [0; NODES];
+    let mut counts = survey(height, table, &mut owners).ok_or(7u16)?;
+    let own = table[usize::from(tenant)];
+    if own == 0 {
+        return Err(9);
+    }
+    let old = layout(&counts);
+    counts[level_of(height, own)] -= 1;
+    if total(&counts) + (1 << level) > 1 << height {
+        return Err(10);
+    }
+    counts[usize::from(level)] += 1;
+    let new = layout(&counts);
+    let (plan, node) = plan_moves(height, &old, &new, own, Some(level), &owners);
+    carry_out(table, &plan);
+    table[usize::from(tenant)] = node;
+    Ok(Done { node, plan })
+}
+
+fn level_of(height: u16, node: u16) -> usize {
+    usize::from(height) - node.ilog2() as usize
 }
 
 fn carry_out(table: &mut [u16; TENANTS], plan: &Plan) {

@@ -4,10 +4,14 @@ use crate::calls::{self, Done};
 use crate::image::{self, MOVE_BYTES, TABLE_BYTES};
 use crate::layout::layout;
 use crate::page_map::{self, MAP_BYTES};
+use crate::plan::MOST;
 use crate::survey::survey;
 use crate::{LEVELS, NODES, TENANTS};
 
-/// What a grant or a release reports.
+/// The fewest entries of a list of moves for a grant or a release; a growth needs as many as there can be moves.
+const FEWEST: usize = 4;
+
+/// What a grant, a release or a growth reports.
 #[repr(C)]
 #[derive(Clone, Copy, Debug, PartialEq, Eq)]
 pub struct Outcome {
@@ -31,7 +35,7 @@ pub fn same_open(height: u16, table: &mut [u8]) -> u16 {
 
 #[inline(never)]
 pub fn same_grant_level(height: u16, table: &mut [u8], moves: &mut [u8], tenant: u16, level: u16) -> Outcome {
-    outcome(call(height, table, moves, tenant, |nodes| {
+    outcome(call(height, table, moves, FEWEST, tenant, |nodes| {
         if level > height {
             return Err(5);
         }
@@ -41,7 +45,7 @@ pub fn same_grant_level(height: u16, table: &mut [u8], moves: &mut [u8], tenant:
 
 #[inline(never)]
 pub fn same_grant_pages(height: u16, table: &mut [u8], moves: &mut [u8], tenant: u16, pages: u16) -> Outcome {
-    outcome(call(height, table, moves, tenant, |nodes| {
+    outcome(call(height, table, moves, FEWEST, tenant, |nodes| {
         if pages >= 1 << height {
             return Err(6);
         }
@@ -51,8 +55,18 @@ pub fn same_grant_pages(height: u16, table: &mut [u8], moves: &mut [u8], tenant:
 
 #[inline(never)]
 pub fn same_release(height: u16, table: &mut [u8], moves: &mut [u8], tenant: u16) -> Outcome {
-    outcome(call(height, table, moves, tenant, |nodes| {
+    outcome(call(height, table, moves, FEWEST, tenant, |nodes| {
         calls::release(height, nodes, tenant)
+    }))
+}
+
+#[inline(never)]
+pub fn same_grow(height: u16, table: &mut [u8], moves: &mut [u8], tenant: u16, level: u16) -> Outcome {
+    outcome(call(height, table, moves, MOST, tenant, |nodes| {
+        if level > height {
+            return Err(5);
+        }
+        calls::grow(height, nodes, tenant, level)
     }))
 }
 
@@ -89,11 +103,12 @@ fn call(
     height: u16,
     table: &mut [u8],
     moves: &mut [u8],
+    fewest: usize,
     tenant: u16,
     change: impl FnOnce(&mut [u16; TENANTS]) -> Result<Done, u16>,
 ) -> Result<Done, u16> {
     check_reserve(height, table)?;
-    if moves.len() < 4 * MOVE_BYTES {
+    if moves.len() < fewest * MOVE_BYTES {
         return Err(3);
     }
     if usize::from(tenant) >= TENANTS {

@@ -6,8 +6,8 @@ use crate::layout::{Layout, Row};
 use crate::survey::Owners;
 use crate::NONE;
 
-/// The most moves of a call.
-pub const MOST: usize = 4;
+/// The most moves of a call, which a growth has.
+pub const MOST: usize = 7;
 
 #[derive(Clone, Copy, Default)]
 pub struct Move {
@@ -47,16 +47,21 @@ impl Places {
     fn holds(&self, index: u16) -> bool {
         index != self.hole && self.row.holds(index)
     }
-
-    fn last(&self) -> u16 {
-        self.row.start + self.row.run.saturating_sub(1)
-    }
 }
 
-/// The least index from `from` on that is in `old` and not in `new`, or [`NONE`]. Rows of layouts that follow each
-/// other differ at no others than the four that are tried.
+/// The least index from `from` on that is in `old` and not in `new`, or [`NONE`]. If the index before it is not in `old` either,
+/// or is in `new` too, it is one of those that are tried.
 fn least(old: &Places, new: &Places, from: u16) -> u16 {
-    let candidates = [old.row.start, old.last(), old.row.lone, new.hole];
+    let behind = |index: u16| index.wrapping_add(1);
+    let candidates = [
+        from,
+        old.row.start,
+        old.row.lone,
+        behind(old.hole),
+        new.row.start + new.row.run,
+        behind(new.row.lone),
+        new.hole,
+    ];
     let fits = |&index: &u16| index >= from && old.holds(index) && !new.holds(index);
     candidates.into_iter().filter(fits).min().unwrap_or(NONE)
 }

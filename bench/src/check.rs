@@ -34,10 +34,12 @@ pub fn check() -> Checked {
     for Counted {
         height,
         most_moves,
+        growths,
         history,
     } in counted()
     {
         calls += check_inputs(&most_moves)?;
+        calls += check_inputs(&growths)?;
         calls += check_history(height, &history, &mut random)?;
     }
     for height in 0..=12 {
@@ -118,6 +120,10 @@ fn random_asks(height: u16, random: &mut Random) -> Vec<Ask> {
             pages: narrow(pages),
         },
         Request::Release { tenant } => Ask::Release { tenant: narrow(tenant) },
+        Request::Grow { tenant, level } => Ask::Grow {
+            tenant: narrow(tenant),
+            level: narrow(level),
+        },
     };
     history.calls.iter().map(|call| ask(call.request)).collect()
 }

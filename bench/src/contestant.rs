@@ -14,6 +14,7 @@ pub trait Contestant {
     fn grant(height: u16, table: &mut [u8], moves: &mut [u8], tenant: u16, level: u16) -> Outcome;
     fn grant_pages(height: u16, table: &mut [u8], moves: &mut [u8], tenant: u16, pages: u16) -> Outcome;
     fn release(height: u16, table: &mut [u8], moves: &mut [u8], tenant: u16) -> Outcome;
+    fn grow(height: u16, table: &mut [u8], moves: &mut [u8], tenant: u16, level: u16) -> Outcome;
     fn draw(height: u16, table: &[u8], map: &mut [u8]) -> u16;
     fn count(map: &[u8]) -> Counted;
 }
@@ -61,6 +62,14 @@ impl Contestant for Library {
         })
     }
 
+    fn grow(height: u16, table: &mut [u8], moves: &mut [u8], tenant: u16, level: u16) -> Outcome {
+        let (table, table_length) = (table.as_mut_ptr(), table.len());
+        let (moves, moves_length) = (moves.as_mut_ptr(), moves.len());
+        Library::outcome(unsafe {
+            functions::reserve_grow(height, table, table_length, moves, moves_length, tenant, level)
+        })
+    }
+
     fn draw(height: u16, table: &[u8], map: &mut [u8]) -> u16 {
         unsafe { functions::reserve_draw(height, table.as_ptr(), table.len(), map.as_mut_ptr(), map.len()) }
     }
@@ -92,6 +101,10 @@ impl Contestant for Same {
 
     fn release(height: u16, table: &mut [u8], moves: &mut [u8], tenant: u16) -> Outcome {
         door::same_release(height, table, moves, tenant)
+    }
+
+    fn grow(height: u16, table: &mut [u8], moves: &mut [u8], tenant: u16, level: u16) -> Outcome {
+        door::same_grow(height, table, moves, tenant, level)
     }
 
     fn draw(height: u16, table: &[u8], map: &mut [u8]) -> u16 {
@@ -136,6 +149,10 @@ impl Contestant for Second {
 
     fn release(height: u16, table: &mut [u8], moves: &mut [u8], tenant: u16) -> Outcome {
         Second::outcome(Oracle.release(height.into(), table, moves, tenant.into()))
+    }
+
+    fn grow(height: u16, table: &mut [u8], moves: &mut [u8], tenant: u16, level: u16) -> Outcome {
+        Second::outcome(Oracle.grow(height.into(), table, moves, tenant.into(), level.into()))
     }
 
     fn draw(height: u16, table: &[u8], map: &mut [u8]) -> u16 {

@@ -21,7 +21,7 @@ use crate::rows::rows;
 pub struct Count {
     /// `library`, `same`, `bytewise` or `pass`.
     pub who: String,
-    /// `row` for a row of the calls, `map` for one of the maps, else `history` or `most-moves`.
+    /// `row` for a row of the calls, `map` for one of the maps, else `history`, `most-moves` or `growths`.
     pub set: String,
     /// The place of the row, or the height.
     pub place: usize,
@@ -46,11 +46,14 @@ pub fn make_calls() {
     for Counted {
         height,
         most_moves,
+        growths,
         history,
     } in counted
     {
-        for input in most_moves {
-            both("most-moves", height.into(), height, input.ask, &input.lent);
+        for (set, inputs) in [("most-moves", most_moves), ("growths", growths)] {
+            for input in inputs {
+                both(set, height.into(), height, input.ask, &input.lent);
+            }
         }
         let mut lent = Lent::new([0; TABLE_BYTES]);
         for ask in history {

@@ -4,7 +4,7 @@ use std::error::Error;
 
 use crate::counting::BYTEWISE;
 use crate::counts::Count;
-use crate::rows::{Row, CALLS, HEIGHTS};
+use crate::rows::{Row, CALLS, GROWTHS, HEIGHTS};
 use crate::stats::median;
 use crate::timing::{Figures, PASS, SAME, SECOND};
 
@@ -74,11 +74,11 @@ pub fn of_map_counts(maps: &[Row], counts: &[Count]) -> Option<Goal> {
 }
 
 /// The goals that instructions decide: by call and height against the same algorithm in Rust and against the bare
-/// pass, and by height for the longest call.
+/// pass, and by height for the longest call and the longest growth.
 pub fn of_counts(rows: &[Row], counts: &[Count]) -> Vec<Goal> {
     let mut goals = Vec::new();
     for height in HEIGHTS {
-        for call in CALLS {
+        for call in CALLS.into_iter().chain(GROWTHS.map(|(call, _)| call)) {
             let chosen = |row: &Row| row.height == height && row.call == call;
             let against_same = of_rows(rows, counts, chosen).map(|(row, library, same)| (library / same, row.name()));
             goals.extend(Goal::worst(
@@ -102,8 +102,29 @@ pub fn of_counts(rows: &[Row], counts: &[Count]) -> Vec<Goal> {
             measured: longest.longest / longest.median,
             place: longest.place,
         });
+        goals.extend(growth_against_grant(height, rows, counts));
     }
     goals
+}
+
+/// That a growth at a height takes at most twice the instructions of a grant: the longest one against the median of the grants
+/// that are answered 0.
+fn growth_against_grant(height: u16, rows: &[Row], counts: &[Count]) -> Option<Goal> {
+    let library = || counts.iter().filter(|count| count.who == "library");
+    let in_rows = |call: &'static str| {
+        let chosen = move |count: &&Count| {
+            count.set == "row" && count.call == call && rows[count.place].height == height
+        };
+        library().filter(chosen)
+    };
+    let granted = in_rows("grant").filter(|count| count.answer == 0);
+    let grant = median(granted.map(|count| count.instructions as f64));
+    let of_rows = in_rows("growth").map(|count| (count, rows[count.place].name()));
+    let with_most_moves = library().filter(|count| count.set == "growths" && count.place == usize::from(height));
+    let of_most_moves = with_most_moves.map(|count| (count, format!("height {height}, growth, {} moves", count.moves)));
+    let all = of_rows.chain(of_most_moves);
+    let ratios = all.map(|(count, place)| (count.instructions as f64 / grant, place));
+    Goal::worst("longest growth ÷ median grant, instructions", 2.0, ratios)
 }
 
 /// The goal about the stack, from the lines about it.

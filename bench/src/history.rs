@@ -1,7 +1,7 @@
-//! Calls one after the other, from an empty reserve to a full one and back, and the calls with the most moves.
+//! Calls one after the other, from an empty reserve to a full one and back, and the calls with the most moves, growths apart.
 
-use oracle::definitions::Tree;
-use oracle::generate::nearly_full;
+use oracle::definitions::{Counts, Tree};
+use oracle::generate::{nearly_full, MOST_MOVED};
 use oracle::planner::TENANTS;
 use oracle::random::Random;
 
@@ -20,6 +20,8 @@ const KEPT: usize = 8;
 pub struct Counted {
     pub height: u16,
     pub most_moves: Vec<Input>,
+    /// The growths with the most moves.
+    pub growths: Vec<Input>,
     pub history: Vec<Ask>,
 }
 
@@ -29,6 +31,7 @@ pub fn counted() -> [Counted; HEIGHTS.len()] {
     HEIGHTS.map(|height| Counted {
         height,
         most_moves: most_moves(height, &mut random),
+        growths: growths(height),
         history: history(height, &mut random),
     })
 }
@@ -128,10 +131,30 @@ fn most_moves(height: u16, random: &mut Random) -> Vec<Input> {
         grants.extend(reserve.grants(random).into_iter().map(|ask| reserve.input(ask)));
         releases.extend(reserve.releases(random).into_iter().map(|ask| reserve.input(ask)));
     }
-    for inputs in [&mut grants, &mut releases] {
-        inputs.sort_by_cached_key(|input| std::cmp::Reverse(outcome_of(input).moves));
-        inputs.truncate(KEPT);
-    }
+    keep_most_moves(&mut grants);
+    keep_most_moves(&mut releases);
     grants.append(&mut releases);
     grants
+}
+
+/// The growths with the most moves among those on some reserves that are nearly full, and on one where seven others move, if it
+/// has room for that. They are drawn from a seed of their own, so that all else is drawn as it was without them.
+fn growths(height: u16) -> Vec<Input> {
+    let mut random = Random::new(SEED);
+    let tree = Tree::new(height.into());
+    let drawn = (0..SEARCHED).map(|_| nearly_full(&mut random, tree));
+    let sharp = (tree.height() >= MOST_MOVED.height).then_some(MOST_MOVED.counts);
+    let counts: Vec<Counts> = drawn.chain(sharp).collect();
+    let mut growths = Vec::new();
+    for counts in counts {
+        let reserve = Reserve::draw(height, &counts, &mut random);
+        growths.extend(reserve.growths(|_, _| true).into_iter().map(|ask| reserve.input(ask)));
+        keep_most_moves(&mut growths);
+    }
+    growths
+}
+
+fn keep_most_moves(inputs: &mut Vec<Input>) {
+    inputs.sort_by_cached_key(|input| std::cmp::Reverse(outcome_of(input).moves));
+    inputs.truncate(KEPT);
 }

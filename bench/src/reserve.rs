@@ -60,10 +60,27 @@ impl Reserve {
             let tenant = self.newcomer(random);
             return vec![Ask::Release { tenant }];
         }
-        let of_level = |level| self.holders.iter().filter(move |holder| holder.level == level);
-        let ends = (0..=self.height.into()).flat_map(|level| [of_level(level).next(), of_level(level).next_back()]);
         let release = |holder: &Holder| Ask::Release { tenant: holder.tenant };
-        ends.flatten().map(release).collect()
+        self.ends().map(release).collect()
+    }
+
+    /// Growths of the first and of the last holder of each level, as they were drawn, to all levels that are wanted, by the one
+    /// held and the one asked for.
+    pub fn growths(&self, wanted: impl Fn(u16, u16) -> bool) -> Vec<Ask> {
+        let mut asks = Vec::new();
+        for holder in self.ends() {
+            let (tenant, held) = (holder.tenant, holder.level as u16);
+            let levels = (0..=self.height).filter(|&level| wanted(held, level));
+            asks.extend(levels.map(|level| Ask::Grow { tenant, level }));
+        }
+        asks
+    }
+
+    /// The first and the last holder of each level, as they were drawn.
+    fn ends(&self) -> impl Iterator<Item = &Holder> {
+        let of_level = |level| self.holders.iter().filter(move |holder| holder.level == level);
+        let ends = (0..=self.height.into()).flat_map(move |level| [of_level(level).next(), of_level(level).next_back()]);
+        ends.flatten()
     }
 
     /// A tenant that holds nothing; any tenant, if all hold a block.

@@ -48,8 +48,15 @@ struct Kind {
     calls: &'static [&'static str],
 }
 
-/// The calls that are timed.
+/// The calls that are timed, growths apart.
 pub const CALLS: [&str; 5] = ["open", "grant", "release", "map", "count"];
+
+/// The growths that are timed, with the levels that they go to, by the one held and the one asked for.
+pub const GROWTHS: [(&str, fn(u16, u16) -> bool); 3] = [
+    ("growth up", |held, asked| held < asked),
+    ("growth down", |held, asked| held > asked),
+    ("growth to the same level", |held, asked| held == asked),
+];
 
 fn kinds(height: u16, random: &mut Random) -> [Kind; 7] {
     let pages = 1 << height;
@@ -68,15 +75,32 @@ fn kinds(height: u16, random: &mut Random) -> [Kind; 7] {
     ]
 }
 
-/// All rows, by height and call.
+/// All rows, by height and call, those of growths last.
 pub fn rows() -> Vec<Row> {
     let mut random = Random::new(SEED);
     let mut rows = Vec::new();
+    let mut reserves = Vec::new();
     for height in HEIGHTS {
         let kinds = kinds(height, &mut random);
         for call in CALLS {
             for kind in kinds.iter().filter(|kind| kind.calls.contains(&call)) {
-                let inputs = inputs(height, call, &kind.counts, &mut random);
+                let inputs = inputs(height, &kind.counts, &mut random, |reserve, random| match call {
+                    "open" => vec![Ask::Open],
+                    "grant" => reserve.grants(random),
+                    "release" => reserve.releases(random),
+                    "map" => vec![Ask::Map],
+                    _ => vec![Ask::Count],
+                });
+                rows.extend(by_outcome(call, kind.reserve, inputs));
+            }
+        }
+        reserves.push((height, kinds));
+    }
+    // All that stands above is drawn as it would be without growths.
+    for (height, kinds) in &reserves {
+        for (call, wanted) in GROWTHS {
+            for kind in kinds.iter().filter(|kind| kind.calls == CALLS) {
+                let inputs = inputs(*height, &kind.counts, &mut random, |reserve, _| reserve.growths(wanted));
                 rows.extend(by_outcome(call, kind.reserve, inputs));
             }
         }
@@ -84,18 +108,17 @@ pub fn rows() -> Vec<Row> {
     rows
 }
 
-/// The calls of one kind on some reserves with these counts, in any order.
-fn inputs(height: u16, call: &str, counts: &Counts, random: &mut Random) -> Vec<Input> {
+/// Calls on some reserves with these counts, in any order.
+fn inputs(
+    height: u16,
+    counts: &Counts,
+    random: &mut Random,
+    asks: impl Fn(&Reserve, &mut Random) -> Vec<Ask>,
+) -> Vec<Input> {
     let mut inputs = Vec::new();
     for _ in 0..SEATINGS {
         let reserve = Reserve::draw(height, counts, random);
-        let asks = match call {
-            "open" => vec![Ask::Open],
-            "grant" => reserve.grants(random),
-            "release" => reserve.releases(random),
-            "map" => vec![Ask::Map],
-            _ => vec![Ask::Count],
-        };
+        let asks = asks(&reserve, random);
         inputs.extend(asks.into_iter().map(|ask| reserve.input(ask)));
     }
     random.shuffle(&mut inputs);
@@ -133,8 +156,8 @@ fn by_outcome(call: &'static str, reserve: &'static str, inputs: Vec<Input>) -> 
 fn describe(call: &str, outcome: Outcome) -> String {
     match (call, outcome.answer, outcome.moves) {
         (_, 1.., _) => format!("refused, {}", outcome.answer),
-        ("grant" | "release", 0, 0) => "no move".into(),
-        ("grant" | "release", 0, _) => "with moves".into(),
-        _ => "done".into(),
+        ("open" | "map" | "count", 0, _) => "done".into(),
+        (_, 0, 0) => "no move".into(),
+        (_, 0, _) => "with moves".into(),
     }
 }

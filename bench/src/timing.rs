@@ -123,7 +123,7 @@ pub fn map_batch(input: &Input, way: fn(&Map)) -> f64 {
 fn batch<C: Contestant>(input: &Input) -> f64 {
     let may_change = matches!(
         input.ask,
-        Ask::Grant { .. } | Ask::GrantPages { .. } | Ask::Release { .. }
+        Ask::Grant { .. } | Ask::GrantPages { .. } | Ask::Release { .. } | Ask::Grow { .. }
     );
     let changes = may_change && outcome_of(input).answer == 0;
     let laps = if changes { 1 } else { LAPS };

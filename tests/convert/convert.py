@@ -12,7 +12,7 @@ import subprocess
 import sys
 import tempfile
 
-from programs import Program, check, check_streams, conclude, ends_with, feed, grant, grant_pages, limited, release, sockets
+from programs import Program, check, check_streams, conclude, ends_with, feed, grant, grant_pages, growth, limited, release, sockets
 
 CONVERT_PAGES, ORACLE, FAILS, EXAMPLES = (os.path.abspath(path) for path in sys.argv[1:])
 PROGRAM = Program(CONVERT_PAGES)
@@ -25,17 +25,18 @@ FOLDER = object()  # what stands for a folder among files; a text stands for a l
 
 # Journals
 
-OLD = bytes([1, 5]) + grant_pages(7, 0) + grant(1, 1) + grant_pages(2, 1) + release(7) + grant_pages(4095, 0)
-NEW = bytes([1, 5]) + grant(7, 0) + grant(1, 1) + grant_pages(2, 1) + release(7) + grant(4095, 0)
+OLD = bytes([1, 5]) + grant_pages(7, 0) + grant(1, 1) + growth(1, 0) + grant_pages(2, 1) + release(7) + grant_pages(4095, 0)
+NEW = bytes([1, 5]) + grant(7, 0) + grant(1, 1) + growth(1, 0) + grant_pages(2, 1) + release(7) + grant(4095, 0)
 
-# Journals that are refused, each with number and offset. Lines that only tell of a refused grant or release are no reason.
+# Journals that are refused, each with number and offset. Lines that only tell of a refused call are no reason.
 REFUSED = (
     ("empty", b"", 11, 0),
     ("without an open", OLD[2:], 11, 0),
     ("of height 13", b"\x01\x0d" + OLD[2:], 1, 0),
     ("of height 255", b"\x01\xff" + OLD[2:], 1, 0),
-    ("with an unknown kind", OLD + b"\x05", 12, len(OLD)),
+    ("with an unknown kind", OLD + b"\xc8", 12, len(OLD)),
     ("cut off", OLD[:-1], 13, len(OLD) - 5),
+    ("cut off in a growth", OLD + growth(1, 2)[:-1], 13, len(OLD)),
     ("with a second open", OLD + b"\x01\x05", 14, len(OLD)),
     ("too long by a byte", b"\x01\x00" + release(7) * 21845, 16, 0),
     ("far too long", b"\x01\x00" + grant_pages(7, 0) * 40000, 16, 0),
@@ -43,13 +44,14 @@ REFUSED = (
 
 
 def drawn(length):
-    """Grants and releases at height 12 up to a length, drawn at random, with 0 pages in many of the grants."""
+    """Grants, releases and growths at height 12 up to a length, drawn at random, with 0 pages in many of the grants."""
     draw = random.Random(length)
     journal = bytes([1, 12])
     while len(journal) + 5 <= length:
         tenant = draw.choice((draw.randrange(1000, 1200), draw.randrange(65536)))
-        record = draw.choice((release(tenant), grant(tenant, draw.randrange(14)), grant_pages(tenant, 0), grant_pages(tenant, draw.randrange(300))))
-        journal += record
+        level = draw.randrange(14)
+        pages = draw.randrange(300)
+        journal += draw.choice((release(tenant), grant(tenant, level), growth(tenant, level), grant_pages(tenant, 0), grant_pages(tenant, pages)))
     return journal
 
 

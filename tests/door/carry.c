@@ -10,14 +10,14 @@
 
 #include "reserve.h"
 
-enum { PAGES = 1 << RESERVE_MAX_HEIGHT, NOBODY = RESERVE_TENANTS, MOST_MOVES = RESERVE_MOVES_BYTES / RESERVE_MOVE_BYTES };
+enum { PAGES = 1 << RESERVE_MAX_HEIGHT, NOBODY = RESERVE_TENANTS };
 enum { HISTORIES = 16, CALLS = 1500, UNTOUCHED = 0x77 };
 
 /* ---- the ways to work a list */
 
-enum way { AS_SAID, NOBODY_LIFTED, FROM_THE_END, NEWCOMER_FIRST, RELEASED_LAST };
+enum way { AS_SAID, NOBODY_LIFTED, FROM_THE_END, NEWCOMER_FIRST, RELEASED_LAST, GROWN_FIRST, GROWN_LEFT_LYING };
 
-/* the wrong ones; each writes on pages that are not free, and all but the last destroy data with that */
+/* the wrong ones; each writes on pages that are not free, and all but one destroy data with that */
 static const struct {
     enum way way;
     int destroys;
@@ -27,6 +27,8 @@ static const struct {
     {FROM_THE_END, 1, "the list is worked from its end"},
     {NEWCOMER_FIRST, 1, "the newcomer is written first"},
     {RELEASED_LAST, 0, "a released block is given up last"},
+    {GROWN_FIRST, 1, "a growing tenant is set down first"},
+    {GROWN_LEFT_LYING, 1, "a growing tenant is lifted last"},
 };
 
 /* ---- a reserve with its pages */
@@ -35,13 +37,14 @@ struct box {
     uint16_t height;
     enum way way;
     uint8_t table[RESERVE_TABLE_BYTES];
-    uint8_t moves[RESERVE_MOVES_BYTES];
+    uint8_t moves[RESERVE_GROW_MOVES_BYTES];
     uint32_t page[PAGES];           /* what stands on each page */
     uint32_t room[PAGES];           /* what was lifted, each page at its number in the reserve */
+    uint32_t own[PAGES];            /* what the tenant that comes or grows has on its pages, from the first on */
     uint16_t whose[PAGES];          /* whose data lies on each page, or NOBODY */
     uint16_t node[RESERVE_TENANTS]; /* where each tenant's data lies, or 0 */
     uint32_t mark[RESERVE_TENANTS]; /* what a tenant's first page has to carry; the next pages count on from there */
-    uint32_t marks_given;
+    uint32_t marks_given;           /* each tenant has as many as it needs to grow to the whole reserve */
     uint32_t drawn;
     int filling;
     /* what was found */
@@ -50,14 +53,21 @@ struct box {
     int misshapen;         /* a list that is not as the header says */
 };
 
-/* what all right histories together had */
-static struct {
+/* what all right histories together had, growths and the other calls apart */
+static struct total {
     unsigned long calls, moves, staged;
-    unsigned long beyond; /* lists with more than one staged tenant, or more staged pages than a quarter of the reserve */
-} total;
+    unsigned most_moves, most_staged;
+    unsigned most_pages; /* that one list staged, in 4,096ths of the reserve */
+} of_growths, of_others;
 
 struct move {
     unsigned tenant, from, to, staged;
+};
+
+struct call {
+    enum reserve_kind kind;
+    uint16_t tenant;
+    uint16_t size;
 };
 
 static unsigned number(const uint8_t *bytes) { return bytes[0] + 256u * bytes[1]; }
@@ -120,14 +130,19 @@ static void work_list(struct box *box, unsigned count) {
     }
 }
 
+/* writes a tenant's pages from one on, as many as its node has */
+static void fill_own(struct box *box, unsigned tenant, unsigned node, unsigned from) {
+    for (unsigned i = from; i < pages_of(box, node).count; i++) {
+        box->own[i] = box->mark[tenant] + i;
+    }
+}
+
 /* a newcomer's pages get marks that no page had before */
 static void arrive(struct box *box, unsigned tenant, unsigned node) {
-    unsigned count = pages_of(box, node).count;
     box->mark[tenant] = box->marks_given;
-    for (unsigned i = 0; i < count; i++) {
-        box->room[i] = box->marks_given++;
-    }
-    set_down(box, tenant, node, box->room);
+    box->marks_given += 1u << box->height;
+    fill_own(box, tenant, node, 0);
+    set_down(box, tenant, node, box->own);
 }
 
 static void depart(struct box *box, unsigned tenant, unsigned node) {
@@ -155,12 +170,42 @@ static void carry_out_release(struct box *box, unsigned tenant, struct reserve_o
     }
 }
 
+/* lifts a growing tenant; of its data as much is kept as goes into the new block, and what that has more is written afresh */
+static void lift_own(struct box *box, unsigned tenant, unsigned node) {
+    struct reserve_pages pages = pages_of(box, box->node[tenant]);
+    memcpy(box->own, box->page + pages.first, pages.count * sizeof *box->page);
+    leave(box, box->node[tenant]);
+    fill_own(box, tenant, node, pages.count);
+}
+
+static void carry_out_growth(struct box *box, unsigned tenant, struct reserve_outcome got) {
+    if (box->way != GROWN_LEFT_LYING) {
+        lift_own(box, tenant, got.node);
+    }
+    if (box->way == GROWN_FIRST) {
+        set_down(box, tenant, got.node, box->own);
+    }
+    work_list(box, got.moves);
+    if (box->way == GROWN_LEFT_LYING) {
+        lift_own(box, tenant, got.node);
+    }
+    if (box->way != GROWN_FIRST) {
+        set_down(box, tenant, got.node, box->own);
+    }
+}
+
 /* ---- judging */
 
-/* direct moves and then staged ones, each from where the tenant's data lies, and behind them the bytes as they were lent */
-static int is_well_formed(const struct box *box, unsigned count) {
+/* the bytes that are lent for the moves of a call */
+static size_t bytes_for(enum reserve_kind kind) {
+    return kind == RESERVE_KIND_GROW ? RESERVE_GROW_MOVES_BYTES : RESERVE_MOVES_BYTES;
+}
+
+/* direct moves and then staged ones, of others than the call's own tenant, each from where the tenant's data lies, and behind
+ * them the bytes as they were lent */
+static int is_well_formed(const struct box *box, struct call call, unsigned count) {
     unsigned staged = 0;
-    if (count > MOST_MOVES) {
+    if (RESERVE_MOVE_BYTES * count > bytes_for(call.kind)) {
         return 0;
     }
     for (unsigned i = 0; i < count; i++) {
@@ -168,12 +213,15 @@ static int is_well_formed(const struct box *box, unsigned count) {
         if (move.tenant >= RESERVE_TENANTS || move.from == 0 || move.from != box->node[move.tenant]) {
             return 0;
         }
+        if (move.tenant == call.tenant) {
+            return 0;
+        }
         if (move.staged < staged || move.staged > 1) {
             return 0;
         }
         staged = move.staged;
     }
-    for (unsigned i = RESERVE_MOVE_BYTES * count; i < RESERVE_MOVES_BYTES; i++) {
+    for (unsigned i = RESERVE_MOVE_BYTES * count; i < sizeof box->moves; i++) {
         if (box->moves[i] != UNTOUCHED) {
             return 0;
         }
@@ -196,26 +244,24 @@ static unsigned long spoilt_pages(const struct box *box) {
     return spoilt;
 }
 
-static void add_up(const struct box *box, unsigned count) {
+static unsigned larger(unsigned one, unsigned other) { return one > other ? one : other; }
+
+static void add_up(const struct box *box, struct total *total, unsigned count) {
     unsigned staged = 0, pages = 0;
     for (unsigned i = 0; i < count; i++) {
         struct move move = move_at(box, i);
         staged += move.staged;
         pages += move.staged * pages_of(box, move.from).count;
     }
-    total.calls++;
-    total.moves += count;
-    total.staged += staged;
-    total.beyond += staged > 1 || 4 * pages > 1u << box->height;
+    total->calls++;
+    total->moves += count;
+    total->staged += staged;
+    total->most_moves = larger(total->most_moves, count);
+    total->most_staged = larger(total->most_staged, staged);
+    total->most_pages = larger(total->most_pages, pages << (RESERVE_MAX_HEIGHT - box->height));
 }
 
 /* ---- histories */
-
-struct call {
-    enum reserve_kind kind;
-    uint16_t tenant;
-    uint16_t size;
-};
 
 static unsigned draw(struct box *box, unsigned below) {
     box->drawn ^= box->drawn << 13;
@@ -232,7 +278,11 @@ static struct call draw_call(struct box *box) {
     if (draw(box, 100) == 0) {
         box->filling = !box->filling;
     }
-    if (draw(box, 4) >= (box->filling ? 3u : 1u)) {
+    if (draw(box, 4) == 0) {
+        call.kind = RESERVE_KIND_GROW;
+        call.tenant = box->whose[draw(box, 1u << box->height)];
+        call.size = (uint16_t)level;
+    } else if (draw(box, 4) >= (box->filling ? 3u : 1u)) {
         if (draw(box, 2) == 0) {
             call.tenant = box->whose[draw(box, 1u << box->height)];
         }
@@ -248,13 +298,15 @@ static struct call draw_call(struct box *box) {
 
 static struct reserve_outcome make_call(struct box *box, struct call call) {
     uint8_t *table = box->table, *moves = box->moves;
-    const size_t table_length = sizeof box->table, moves_length = sizeof box->moves;
-    memset(moves, UNTOUCHED, moves_length);
+    const size_t table_length = sizeof box->table, moves_length = bytes_for(call.kind);
+    memset(moves, UNTOUCHED, sizeof box->moves);
     switch (call.kind) {
     case RESERVE_KIND_GRANT_LEVEL:
         return reserve_grant_level(box->height, table, table_length, moves, moves_length, call.tenant, call.size);
     case RESERVE_KIND_GRANT_PAGES:
         return reserve_grant_pages(box->height, table, table_length, moves, moves_length, call.tenant, call.size);
+    case RESERVE_KIND_GROW:
+        return reserve_grow(box->height, table, table_length, moves, moves_length, call.tenant, call.size);
     default:
         return reserve_release(box->height, table, table_length, moves, moves_length, call.tenant);
     }
@@ -263,17 +315,19 @@ static struct reserve_outcome make_call(struct box *box, struct call call) {
 static void make_and_carry_out(struct box *box, struct call call) {
     struct reserve_outcome got = make_call(box, call);
     if (got.answer == RESERVE_DONE) {
-        box->misshapen = !is_well_formed(box, got.moves);
+        box->misshapen = !is_well_formed(box, call, got.moves);
         if (box->misshapen) {
             return;
         }
         if (call.kind == RESERVE_KIND_RELEASE) {
             carry_out_release(box, call.tenant, got);
+        } else if (call.kind == RESERVE_KIND_GROW) {
+            carry_out_growth(box, call.tenant, got);
         } else {
             carry_out_grant(box, call.tenant, got);
         }
         if (box->way == AS_SAID) {
-            add_up(box, got.moves);
+            add_up(box, call.kind == RESERVE_KIND_GROW ? &of_growths : &of_others, got.moves);
         }
     }
     box->spoilt = spoilt_pages(box);
@@ -337,6 +391,14 @@ static void check_wrong_way(struct box *box, size_t which, uint32_t seed) {
     expect(found == heights);
 }
 
+/* tells what calls of one kind came to, and whether some tenants were staged, but no more of one list than this and no larger
+ * part of the reserve */
+static void check_total(const char *calls, const struct total *total, unsigned staged, unsigned pages) {
+    printf("%lu %s: %lu moves, %lu of them staged; a list has at most %u, and stages at most %u with %u / %u of the pages\n",
+           total->calls, calls, total->moves, total->staged, total->most_moves, total->most_staged, total->most_pages, PAGES);
+    expect(total->staged > 0 && total->most_staged <= staged && total->most_pages <= pages);
+}
+
 int main(int argc, char **argv) {
     static struct box box;
     uint32_t seed = argc > 1 ? (uint32_t)strtoul(argv[1], NULL, 10) : 1;
@@ -344,9 +406,8 @@ int main(int argc, char **argv) {
     for (unsigned height = 0; height <= RESERVE_MAX_HEIGHT; height++) {
         check_height(&box, height, seed, HISTORIES * times);
     }
-    printf("%lu calls, %lu moves, %lu of them staged; %lu lists stage more than one tenant or a quarter of the reserve\n",
-           total.calls, total.moves, total.staged, total.beyond);
-    expect(total.staged > 0 && total.beyond == 0);
+    check_total("grants and releases", &of_others, 1, PAGES / 4);
+    check_total("growths", &of_growths, 2, PAGES / 4);
     for (size_t i = 0; i < sizeof wrong_ways / sizeof wrong_ways[0]; i++) {
         check_wrong_way(&box, i, seed);
     }

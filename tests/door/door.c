@@ -116,7 +116,7 @@ static struct box open_box(uint16_t height) {
     struct box box;
     box.height = height;
     box.table = lend(RESERVE_TABLE_BYTES, 0xEE);
-    box.moves = lend(RESERVE_MOVES_BYTES + 7, 0x77);
+    box.moves = lend(RESERVE_GROW_MOVES_BYTES + 7, 0x77);
     EXPECT(reserve_open(height, box.table.bytes, box.table.length) == RESERVE_DONE);
     EXPECT(all_are(box.table, 0));
     return box;
@@ -140,6 +140,11 @@ static struct reserve_outcome grant_pages(struct box box, uint16_t tenant, uint1
 static struct reserve_outcome release(struct box box, uint16_t tenant) {
     memset(box.moves.bytes, 0x77, box.moves.length);
     return reserve_release(box.height, box.table.bytes, box.table.length, box.moves.bytes, box.moves.length, tenant);
+}
+
+static struct reserve_outcome grow(struct box box, uint16_t tenant, uint16_t level) {
+    memset(box.moves.bytes, 0x77, box.moves.length);
+    return reserve_grow(box.height, box.table.bytes, box.table.length, box.moves.bytes, box.moves.length, tenant, level);
 }
 
 /* the bytes after so many moves are as they were lent */
@@ -435,6 +440,8 @@ static void not_in_order(void) {
         EXPECT(refused(grant_level(box, 100, 0), RESERVE_REFUSED_NOT_IN_ORDER));
         EXPECT(refused(grant_pages(box, 5, 7), RESERVE_REFUSED_NOT_IN_ORDER));
         EXPECT(refused(release(box, 5), RESERVE_REFUSED_NOT_IN_ORDER));
+        EXPECT(refused(grow(box, 5, 3), RESERVE_REFUSED_NOT_IN_ORDER));
+        EXPECT(refused(grow(box, 100, 0), RESERVE_REFUSED_NOT_IN_ORDER));
         EXPECT(memcmp(copy, box.table.bytes, box.table.length) == 0 && moves_end_after(box, 0));
         free(copy);
         close_box(box);
@@ -458,6 +465,89 @@ static void everybody(void) {
     EXPECT(right);
     EXPECT(all_are(box.table, 0));
     close_box(box);
+}
+
+/* ---- growth */
+
+/* four pages: a tenant gives up its page for two others, on which somebody lies who moves to that page */
+static void growing(void) {
+    struct box box = open_box(2);
+    EXPECT(granted(box, grant_level(box, 0, 0), 0, 4, 0));
+    EXPECT(granted(box, grant_level(box, 1, 0), 1, 5, 0));
+    EXPECT(granted(box, grant_level(box, 2, 1), 2, 3, 0));
+    EXPECT(refused(grow(box, 0, 1), RESERVE_REFUSED_NO_ROOM));
+    EXPECT(refused(grow(box, 3, 1), RESERVE_REFUSED_HOLDS_NONE));
+    EXPECT(moves_end_after(box, 0));
+    EXPECT(node_of(box.table, 0) == 4 && node_of(box.table, 1) == 5 && node_of(box.table, 2) == 3);
+    EXPECT(granted(box, grow(box, 2, 1), 2, 3, 0));
+    EXPECT(granted(box, grow(box, 2, 0), 2, 6, 0));
+    EXPECT(granted(box, grow(box, 0, 1), 0, 3, 1));
+    EXPECT(is_direct(box.moves, 0, 2, 6, 4));
+    EXPECT(node_of(box.table, 1) == 5 && node_of(box.table, 2) == 4);
+    close_box(box);
+}
+
+/* Height 9, with the counts 3, 3, 3, 1, 3, 1, 1, 2 on levels 0 to 7, held by tenants 0 to 16 from the lowest node on. A tenant
+ * on node 257 or 258 that grows to level 5 moves seven others, and one on 259 six. */
+static const unsigned crowd[] = {4, 6, 10, 14, 30, 32, 33, 34, 62, 126, 127, 254, 257, 258, 259, 512, 513};
+enum { CROWD = sizeof crowd / sizeof crowd[0] };
+
+static void seat_crowd(struct lent table) {
+    unsigned tenant;
+    for (tenant = 0; tenant < CROWD; tenant++) {
+        put_node(table, tenant, crowd[tenant]);
+    }
+}
+
+static void seven_moves(void) {
+}
+
+/* every refusal of a growth, with all later ones present too: the first is answered, and no byte changes */
+static void arguments_of_growth(void) {
+    struct box box = open_box(3);
+    struct lent longer = lend(RESERVE_TABLE_BYTES + 2, 0x11);
+    struct lent few = lend(RESERVE_GROW_MOVES_BYTES - 1, 0x22);
+    uint8_t *table;
+    EXPECT(granted(box, grant_level(box, 5, 1), 5, 4, 0));
+    EXPECT(granted(box, grant_level(box, 6, 2), 6, 3, 0));
+    table = copy_of(box.table);
+    EXPECT(refused(reserve_grow(13, longer.bytes, longer.length, few.bytes, few.length, 4096, 14), RESERVE_REFUSED_HEIGHT));
+    EXPECT(refused(reserve_grow(12, longer.bytes, longer.length, few.bytes, few.length, 4096, 14), RESERVE_REFUSED_TABLE_LENGTH));
+    EXPECT(refused(reserve_grow(12, NULL, 0, NULL, 0, 4096, 14), RESERVE_REFUSED_TABLE_LENGTH));
+    EXPECT(refused(reserve_grow(3, box.table.bytes, box.table.length, few.bytes, few.length, 4096, 4), RESERVE_REFUSED_MOVES));
+    EXPECT(refused(reserve_grow(3, box.table.bytes, box.table.length, NULL, 0, 4096, 4), RESERVE_REFUSED_MOVES));
+    EXPECT(refused(grow(box, 4096, 4), RESERVE_REFUSED_TENANT));
+    EXPECT(refused(grow(box, 65535, 65535), RESERVE_REFUSED_TENANT));
+    EXPECT(refused(grow(box, 7, 4), RESERVE_REFUSED_LEVEL));
+    EXPECT(refused(grow(box, 5, 65535), RESERVE_REFUSED_LEVEL));
+    EXPECT(refused(grow(box, 7, 3), RESERVE_REFUSED_HOLDS_NONE));
+    EXPECT(refused(grow(box, 5, 3), RESERVE_REFUSED_NO_ROOM));
+    EXPECT(moves_end_after(box, 0));
+    EXPECT(memcmp(table, box.table.bytes, box.table.length) == 0);
+    EXPECT(all_are(longer, 0x11) && all_are(few, 0x22));
+    free(table);
+    give_back(longer);
+    give_back(few);
+    close_box(box);
+}
+
+/* a list of fewer than 56 bytes is refused whatever the level, that of the tenant too; 56 and more are not */
+static void bytes_of_growth(void) {
+    size_t n;
+    uint16_t level;
+    for (n = 0; n <= RESERVE_GROW_MOVES_BYTES + RESERVE_MOVE_BYTES; n++) {
+        unsigned answer = n < RESERVE_GROW_MOVES_BYTES ? RESERVE_REFUSED_MOVES : RESERVE_DONE;
+        struct lent table = lend(RESERVE_TABLE_BYTES, 0);
+        struct lent moves = lend(n, 0x22);
+        for (level = 0; level <= 2; level++) {
+            put_node(table, 4095, 2);
+            EXPECT(reserve_grow(2, table.bytes, table.length, moves.bytes, n, 4095, level).answer == answer);
+            EXPECT(node_of(table, 4095) == (n < RESERVE_GROW_MOVES_BYTES ? 2 : 4u >> level));
+        }
+        EXPECT(all_are(moves, 0x22));
+        give_back(table);
+        give_back(moves);
+    }
 }
 
 /* ---- the page map */
@@ -625,17 +715,20 @@ static int wrote(struct reserve_written got, size_t length) { return got.answer 
 static int no_room(struct reserve_written got) { return got.answer == RESERVE_REFUSED_TOO_SHORT && got.length == 0; }
 
 static void writing(void) {
-    static const uint8_t records[] = {1, 255, 2, 2, 1, 200, 3, 255, 15, 0, 16, 4, 254, 255, 0x44};
+    static const uint8_t records[] = {1, 255, 2, 2, 1, 200, 3, 255, 15, 0, 16, 4, 254, 255, 5, 3, 1, 255, 0x44};
     struct lent out = lend(sizeof records, 0x44);
     size_t n;
     EXPECT(wrote(reserve_write_open(255, out.bytes, out.length), 2));
     EXPECT(wrote(reserve_write_grant_level(258, 200, out.bytes + 2, out.length - 2), 4));
     EXPECT(wrote(reserve_write_grant_pages(4095, 4096, out.bytes + 6, out.length - 6), 5));
     EXPECT(wrote(reserve_write_release(65534, out.bytes + 11, out.length - 11), 3));
+    EXPECT(wrote(reserve_write_grow(259, 255, out.bytes + 14, out.length - 14), 4));
     EXPECT(memcmp(out.bytes, records, sizeof records) == 0);
     EXPECT(reads(out.bytes, 14, 2, RESERVE_KIND_GRANT_LEVEL, 258, 200, 6));
     EXPECT(reads(out.bytes, 14, 6, RESERVE_KIND_GRANT_PAGES, 4095, 4096, 11));
     EXPECT(reads(out.bytes, 14, 11, RESERVE_KIND_RELEASE, 65534, 0, 14));
+    EXPECT(reads(out.bytes, 18, 14, RESERVE_KIND_GROW, 259, 255, 18));
+    EXPECT(read_refused(out.bytes, 17, 14, RESERVE_REFUSED_CUT_OFF, 14));
     give_back(out);
     for (n = 0; n <= RESERVE_RECORD_BYTES; n++) {
         out = lend(n, 0x44);
@@ -643,8 +736,10 @@ static void writing(void) {
         EXPECT(n < 4 ? no_room(reserve_write_grant_level(3, 1, out.bytes, n)) : 1);
         EXPECT(n < 5 ? no_room(reserve_write_grant_pages(3, 1, out.bytes, n)) : 1);
         EXPECT(n < 3 ? no_room(reserve_write_release(3, out.bytes, n)) : 1);
+        EXPECT(n < 4 ? no_room(reserve_write_grow(3, 1, out.bytes, n)) : 1);
         EXPECT(all_are(out, 0x44));
         EXPECT(n < 3 || wrote(reserve_write_release(3, out.bytes, n), 3));
+        EXPECT(n < 4 || wrote(reserve_write_grow(3, 1, out.bytes, n), 4));
         give_back(out);
     }
     EXPECT(no_room(reserve_write_open(3, NULL, 0)));
@@ -666,6 +761,10 @@ int main(void) {
     byte_order();
     not_in_order();
     everybody();
+    growing();
+    seven_moves();
+    arguments_of_growth();
+    bytes_of_growth();
     page_map();
     side_by_side();
     node_pages();

@@ -1,6 +1,6 @@
 /*
  * How much stack each function uses: it runs on a stack of its own that was painted before, and the paint left is counted.
- * Grants and releases are those that move the most tenants. The last line is 'N passed, M failed'; a function that uses more
+ * Grants, releases and growths are those that move the most tenants. The last line is 'N passed, M failed'; a function that uses more
  * than the header says is a failure.
  */
 #define _XOPEN_SOURCE 700
@@ -13,10 +13,13 @@
 enum { STACK = 256 * 1024, MOST = 32 * 1024, PAINT = 0xA5 };
 
 static uint8_t stack[STACK];
-static uint8_t table[RESERVE_TABLE_BYTES], moves[RESERVE_MOVES_BYTES], map[RESERVE_MAP_BYTES], record[RESERVE_RECORD_BYTES];
+static uint8_t table[RESERVE_TABLE_BYTES], moves[RESERVE_GROW_MOVES_BYTES], map[RESERVE_MAP_BYTES], record[RESERVE_RECORD_BYTES];
 static struct reserve_outcome got;
 static ucontext_t here, there;
 static int passed, failed;
+
+/* the tenant whose growth to level 5 moves seven others */
+static uint16_t grower;
 
 /* what the context switch itself takes, measured with a function that does nothing */
 static long overhead;
@@ -26,10 +29,12 @@ static void opens(void) { reserve_open(12, table, sizeof table); }
 static void grants_level(void) { got = reserve_grant_level(12, table, sizeof table, moves, sizeof moves, 6, 1); }
 static void grants_pages(void) { got = reserve_grant_pages(12, table, sizeof table, moves, sizeof moves, 6, 1); }
 static void releases(void) { got = reserve_release(12, table, sizeof table, moves, sizeof moves, 1); }
+static void grows(void) { got = reserve_grow(12, table, sizeof table, moves, sizeof moves, grower, 5); }
 static void names_pages(void) { reserve_node_pages(12, 4100); }
 static void draws(void) { reserve_draw(12, table, sizeof table, map, sizeof map); }
 static void counts(void) { reserve_count(map, sizeof map); }
 static void writes(void) { reserve_write_grant_pages(5, 6, record, sizeof record); }
+static void writes_growth(void) { reserve_write_grow(5, 6, record, sizeof record); }
 static void reads(void) { reserve_read(record, sizeof record, 0); }
 
 static long used_by(void (*call)(void)) {
@@ -57,6 +62,23 @@ static void fill_table(void) {
     }
 }
 
+/* as many tenants on each level as it takes for a growth to move seven others: a tenant on the second node of level 1 */
+static void fill_for_growth(void) {
+    static const unsigned counts[] = {3, 3, 3, 1, 3, 1, 1, 2};
+    uint16_t tenant = 0;
+    unsigned i, level;
+    reserve_open(12, table, sizeof table);
+    for (level = 0; level < sizeof counts / sizeof counts[0]; level++) {
+        for (i = 0; i < counts[level]; i++) {
+            reserve_grant_level(12, table, sizeof table, moves, sizeof moves, tenant++, (uint16_t)level);
+        }
+    }
+    grower = 0;
+    while (grower < tenant && table[2 * grower] + 256 * table[2 * grower + 1] != 2049) {
+        grower++;
+    }
+}
+
 static void measure(const char *name, void (*call)(void), unsigned moved) {
     long used;
     got.moves = 0;
@@ -78,10 +100,13 @@ int main(void) {
     measure("reserve_release", releases, 4);
     fill_table();
     measure("reserve_grant_pages", grants_pages, 3);
+    fill_for_growth();
+    measure("reserve_grow", grows, 7);
     measure("reserve_node_pages", names_pages, 0);
     measure("reserve_draw", draws, 0);
     measure("reserve_count", counts, 0);
     measure("reserve_write_grant_pages", writes, 0);
+    measure("reserve_write_grow", writes_growth, 0);
     measure("reserve_read", reads, 0);
     printf("%d passed, %d failed\n", passed, failed);
     return failed == 0 ? 0 : 1;

@@ -9,6 +9,8 @@ struct reserve_outcome __real_reserve_grant_pages(uint16_t height, uint8_t *tabl
                                                   size_t moves_length, uint16_t tenant, uint16_t pages);
 struct reserve_outcome __real_reserve_release(uint16_t height, uint8_t *table, size_t table_length, uint8_t *moves,
                                               size_t moves_length, uint16_t tenant);
+struct reserve_outcome __real_reserve_grow(uint16_t height, uint8_t *table, size_t table_length, uint8_t *moves,
+                                           size_t moves_length, uint16_t tenant, uint16_t level);
 uint16_t __real_reserve_draw(uint16_t height, const uint8_t *table, size_t table_length, uint8_t *map, size_t map_length);
 struct reserve_counted __real_reserve_count(const uint8_t *map, size_t map_length);
 struct reserve_reading __real_reserve_read(const uint8_t *journal, size_t journal_length, size_t offset);
@@ -54,6 +56,27 @@ struct reserve_outcome __wrap_reserve_grant_pages(uint16_t height, uint8_t *tabl
     struct reserve_outcome got = __real_reserve_grant_pages(height, table, table_length, moves, moves_length, tenant, asked);
     if (MISTAKE == 5 && got.answer == RESERVE_REFUSED_NOT_IN_ORDER && height == RESERVE_MAX_HEIGHT && pages == 1)
         got.answer = RESERVE_REFUSED_NO_ROOM;
+    return got;
+}
+
+/* 10: a growth that moves five tells the last one's new node wrong.
+ * 11: a growth that stages two tells the first of them as direct.
+ * 12: a tenant of level 5 or more that shrinks to level 0 is told to be on the next node, on a reserve of height 8.
+ * 13: a growth to the level that the tenant has is taken with four entries. */
+struct reserve_outcome __wrap_reserve_grow(uint16_t height, uint8_t *table, size_t table_length, uint8_t *moves,
+                                           size_t moves_length, uint16_t tenant, uint16_t level) {
+    int in_table = table_length == RESERVE_TABLE_BYTES && tenant < RESERVE_TENANTS;
+    int node = in_table ? number(table + 2 * tenant) : 0;
+    struct reserve_outcome got = __real_reserve_grow(height, table, table_length, moves, moves_length, tenant, level);
+    uint8_t *last = moves + (got.moves > 0 ? got.moves - 1 : 0) * RESERVE_MOVE_BYTES;
+    if (MISTAKE == 10 && got.moves == 5) last[4] ^= 1;
+    if (MISTAKE == 11 && got.moves > 1 && (last - RESERVE_MOVE_BYTES)[6] == 1) (last - RESERVE_MOVE_BYTES)[6] = 0;
+    if (MISTAKE == 12 && got.answer == RESERVE_DONE && height == 8 && level == 0 && node < 16) got.node ^= 1;
+    if (MISTAKE == 13 && got.answer == RESERVE_REFUSED_MOVES && moves_length >= RESERVE_MOVES_BYTES && in_table && level < height &&
+        node >> (height - level) == 1) {
+        got.answer = RESERVE_DONE;
+        got.node = (uint16_t)node;
+    }
     return got;
 }
 

@@ -14,7 +14,7 @@ import subprocess
 import sys
 import tempfile
 
-from programs import Program, check, check_streams, conclude, ends_with, equal, grant, grant_pages, release
+from programs import Program, check, check_streams, conclude, ends_with, equal, grant, grant_pages, growth, release
 
 LISTING, ORACLE, FAILS, EXAMPLES = (os.path.abspath(path) for path in sys.argv[1:])
 PROGRAM = Program(LISTING)
@@ -38,15 +38,30 @@ def longest_listing():
     return journal
 
 
+def most_moved():
+    """Growths that move seven others, and back, at height 12 and with tenants of four digits: the longest lines that there are."""
+    journal = bytes([1, 12])
+    tenant = 4095
+    for level, count in enumerate((3, 3, 3, 1, 3, 1, 1, 2)):
+        for _ in range(count):
+            journal += grant(tenant, level)
+            tenant -= 1
+    for tenant in 4090, 4091, 4092:
+        journal += growth(tenant, 5) + growth(tenant, 5) + growth(tenant, 1)
+    return journal
+
+
 def drawn():
-    """Grants and releases at height 12, drawn at random."""
+    """Grants, releases and growths at height 12, drawn at random."""
     draw = random.Random(1)
     journal = bytes([1, 12])
     while len(journal) < 30000:
         tenant = draw.randrange(1000, 1200)
-        kind = draw.randrange(5)
+        kind = draw.randrange(7)
         if kind < 2:
             journal += release(tenant)
+        elif kind > 4:
+            journal += growth(tenant, draw.randrange(9))
         elif kind < 4:
             journal += grant(tenant, draw.randrange(9))
         else:
@@ -116,6 +131,10 @@ class Pages:
     def leave(self, tenant, node):
         self.replace(node, tenant, None)
 
+    def lift(self, tenant):
+        assert tenant in self.tenants, f"{tenant} lies nowhere"
+        self.tenants = [None if lying == tenant else lying for lying in self.tenants]
+
     def enter(self, tenant, node):
         self.replace(node, None, tenant)
 
@@ -147,6 +166,8 @@ def carry_out(lines):
             pages.leave(who, node)
             work(pages, moves)
         elif answer == "0":
+            if kind == "Z":
+                pages.lift(who)
             work(pages, moves)
             pages.enter(who, node)
 
@@ -173,15 +194,35 @@ def check_carried_out(name, listing):
 
 
 def check_carrying_out():
-    """Of these lists for one grant only the first can be carried out."""
-    for moves, right in ("0:2>3 1:6=4", True), ("0:2>3 1:6>4", False), ("1:6>4 0:2>3", False), ("1:6=4 0:2>3", False):
-        with check(f"{moves} {'carried out' if right else 'found'}"):
+    """Of these lists for one grant, and then for one growth, only the first can be carried out."""
+    granted = "1 O 2 - 0 - 0", "2 G 0 1 0 2 0", "3 G 1 0 0 6 0"
+    single = "1 O 2 - 0 - 0", "2 G 0 0 0 4 0", "3 G 1 0 0 5 0", "4 G 2 0 0 6 0"
+    for before, line, right in (
+        (granted, "4 G 2 0 0 5 2 0:2>3 1:6=4", True),
+        (granted, "4 G 2 0 0 5 2 0:2>3 1:6>4", False),
+        (granted, "4 G 2 0 0 5 2 1:6>4 0:2>3", False),
+        (granted, "4 G 2 0 0 5 2 1:6=4 0:2>3", False),
+        (single, "5 Z 0 1 0 3 1 2:6>4", True),
+        (single, "5 Z 0 1 0 3 0", False),
+        (single, "5 Z 0 1 0 3 2 0:4>3 2:6>4", False),
+        (single, "5 Z 1 1 0 3 1 2:6>4", False),
+        (single, "5 Z 3 1 0 3 1 2:6>4", False),
+    ):
+        with check(f"{line} {'carried out' if right else 'found'}"):
             try:
-                carry_out(["1 O 2 - 0 - 0", "2 G 0 1 0 2 0", "3 G 1 0 0 6 0", f"4 G 2 0 0 5 2 {moves}"])
+                carry_out([*before, line])
                 carried_out = True
             except AssertionError:
                 carried_out = False
             assert carried_out == right
+
+
+def check_growths(folder, journal, listing):
+    with check("growths that move seven others"):
+        moved = [line.split(" ")[6] for line in listing.decode().splitlines() if line.split(" ")[1] == "Z"]
+        assert "7" in moved, moved
+    check_listed("growths that move seven others", folder, journal, listing)
+    check_carried_out("growths that move seven others", listing)
 
 
 def check_listings(folder, long_journal, long_listing, drawn_journal, drawn_listing):
@@ -226,12 +267,13 @@ def check_arguments(folder):
 
 
 def main():
-    long_journal, drawn_journal = longest_listing(), drawn()
-    long_listing, drawn_listing = listed_by_oracle(long_journal, drawn_journal)
+    long_journal, drawn_journal, growths = longest_listing(), drawn(), most_moved()
+    long_listing, drawn_listing, growth_listing = listed_by_oracle(long_journal, drawn_journal, growths)
     with tempfile.TemporaryDirectory() as name:
         folder = pathlib.Path(name)
         check_carrying_out()
         check_listings(folder, long_journal, long_listing, drawn_journal, drawn_listing)
+        check_growths(folder, growths, growth_listing)
         check_arguments(folder)
         # Where writing fails: inside a block, at its end, and beside it.
         places = 0, 1, 1000, BLOCK - 1, BLOCK, BLOCK + 1, 6 * BLOCK + 777, 7 * BLOCK + 1, len(long_listing) - 1

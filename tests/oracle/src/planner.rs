@@ -20,11 +20,22 @@ pub const FEWEST_ENTRIES_TO_GROW: usize = 7;
 /// What a tenant wants.
 #[derive(Clone, Copy, Debug, PartialEq, Eq)]
 pub enum Request {
-    GrantLevel { tenant: u32, level: u32 },
-    GrantPages { tenant: u32, pages: u32 },
-    Release { tenant: u32 },
+    GrantLevel {
+        tenant: u32,
+        level: u32,
+    },
+    GrantPages {
+        tenant: u32,
+        pages: u32,
+    },
+    Release {
+        tenant: u32,
+    },
     /// A block of another level, larger or smaller, in the place of its own.
-    Grow { tenant: u32, level: u32 },
+    Grow {
+        tenant: u32,
+        level: u32,
+    },
 }
 
 impl Request {

@@ -58,7 +58,7 @@ fn as_low_as_the_best<K: Ord>(change: &Change, part: impl Fn((usize, usize, Vec<
 
 /// How many calls stage how many, by the number of movers.
 #[test]
-fn small_reserves_stage_one_tenant_or_none() {
+fn small_reserves_stage_two_tenants_at_most_and_those_for_a_growth() {
     let mut grants: BTreeMap<(usize, usize), u32> = BTreeMap::new();
     let mut releases = grants.clone();
     let mut growths = grants.clone();
@@ -80,9 +80,20 @@ fn small_reserves_stage_one_tenant_or_none() {
         ((3, 1), 7584),
         ((4, 1), 64),
     ];
+    let of_growths = [
+        ((0, 0), 30_647),
+        ((1, 0), 23_628),
+        ((2, 0), 11_455),
+        ((2, 1), 1_953),
+        ((3, 0), 1_314),
+        ((3, 1), 4_416),
+        ((4, 1), 2_116),
+        ((4, 2), 96),
+        ((5, 2), 96),
+    ];
     assert_eq!(grants, BTreeMap::from(of_grants));
     assert_eq!(releases, BTreeMap::from(of_releases));
-    assert_eq!(growths, BTreeMap::new());
+    assert_eq!(growths, BTreeMap::from(of_growths));
 }
 
 /// On a small reserve the pages alone decide whom to stage, however the tenants are numbered.
@@ -93,7 +104,7 @@ fn no_two_sets_of_a_small_reserve_have_the_fewest_pages() {
         assert_eq!(as_low_as_the_best(change, |(pages, _, _)| pages), 1, "{request:?}");
         calls += 1;
     });
-    assert_eq!(calls, 29_595);
+    assert_eq!(calls, 105_316);
 }
 
 /// What movers that are made up come to.

@@ -275,7 +275,9 @@ impl Fault {
 /// The offset of the first growth.
 fn first_growth(journal: &[u8]) -> Option<usize> {
     let records = records(journal);
-    let place = records.iter().position(|record| matches!(record, Record::Grow { .. }))?;
+    let place = records
+        .iter()
+        .position(|record| matches!(record, Record::Grow { .. }))?;
     Some(records[..place].iter().map(|record| record.bytes().len()).sum())
 }
 

@@ -24,7 +24,11 @@ fn call(tree: Tree, table: &[Node], request: Request) -> Outcome {
 /// The counts of all legal sets of a tree.
 fn counts_of_legal_sets(tree: Tree) -> BTreeSet<Counts> {
     match tree.height() {
-        0..=3 => tree.every_set().filter(|set| is_legal(set)).map(|set| tree.counts(&set)).collect(),
+        0..=3 => tree
+            .every_set()
+            .filter(|set| is_legal(set))
+            .map(|set| tree.counts(&set))
+            .collect(),
         _ => tree.every_legal_set().iter().map(|set| tree.counts(set)).collect(),
     }
 }
@@ -72,7 +76,12 @@ fn whoever_can_stay_stays_and_the_others_keep_their_order() {
 /// and the tenant takes the last.
 fn pairs_as_told(tree: Tree, table: &[Node], outcome: &Outcome, own: usize) {
     for level in tree.levels() {
-        let mut needed: Vec<Node> = outcome.table.iter().copied().filter(|&node| at(tree, node, level)).collect();
+        let mut needed: Vec<Node> = outcome
+            .table
+            .iter()
+            .copied()
+            .filter(|&node| at(tree, node, level))
+            .collect();
         needed.sort_unstable();
         let mut movers = Vec::new();
         for (tenant, &node) in table.iter().enumerate().filter(|&(_, &node)| at(tree, node, level)) {

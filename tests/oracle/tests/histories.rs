@@ -154,7 +154,7 @@ fn histories_reach_every_answer_and_the_most_moves() {
     let most = |moves, staged| Most { moves, staged };
     assert_eq!(seldom.of_grant, most(MOST_FOR_GRANT, 1));
     assert_eq!(seldom.of_release, most(MOST_FOR_RELEASE, 1));
-    assert_eq!(seldom.of_growth, most(6, 2));
+    assert_eq!(seldom.of_growth, most(5, 2));
 }
 
 /// Every counts vector up to height 5 with every grant, every release and every growth; the audit has the bounds on the moves.

@@ -158,7 +158,11 @@ fn a_tenant_may_grow_onto_its_own_pages() {
             for to in tree.levels() {
                 let outcome = call(height, &held, grow(0, to));
                 let node = tree.nodes_at(to).start;
-                assert_eq!((outcome.answer, outcome.node), (0, node), "{from} to {to} at height {height}");
+                assert_eq!(
+                    (outcome.answer, outcome.node),
+                    (0, node),
+                    "{from} to {to} at height {height}"
+                );
                 assert_eq!((outcome.moves, outcome.table), (vec![], table(&[node])));
             }
             assert_eq!(call(height, &held, grow(0, height + 1)).answer, 5);
@@ -180,7 +184,11 @@ fn pages_after_the_change_decide_whether_there_is_room() {
         let level = Tree::new(5).level(node);
         for to in 0..=5 {
             let outcome = call(5, &full, grow(tenant, to));
-            assert_eq!(outcome.answer, if to > level { 10 } else { 0 }, "tenant {tenant} to level {to}");
+            assert_eq!(
+                outcome.answer,
+                if to > level { 10 } else { 0 },
+                "tenant {tenant} to level {to}"
+            );
             if to > level {
                 assert_eq!((outcome.node, outcome.moves.len(), &outcome.table), (0, 0, &full));
             }
@@ -212,7 +220,11 @@ fn fewer_than_56_bytes_are_too_short_a_list_for_a_growth() {
         let mut image = vec![0; 2 * TENANTS];
         image[0] = 2;
         let reply = Oracle.grow(2, &mut image, &mut moves, 0, level);
-        assert_eq!(reply.answer, if length < 56 { 3 } else { 0 }, "{length} bytes, level {level}");
+        assert_eq!(
+            reply.answer,
+            if length < 56 { 3 } else { 0 },
+            "{length} bytes, level {level}"
+        );
         assert!(moves.iter().all(|&byte| byte == 0xa5));
     }
 }
@@ -227,7 +239,11 @@ fn a_growth_moves_seven_others() {
         for (node, moves) in [(first + 1, 7), (first + 2, 7), (first + 3, 6)] {
             let tenant = held.iter().position(|&other| other == node).expect("a held node") as u32;
             let outcome = call(height, &held, grow(tenant, MOST_MOVED.to));
-            assert_eq!((outcome.answer, outcome.moves.len()), (0, moves), "height {height}, node {node}");
+            assert_eq!(
+                (outcome.answer, outcome.moves.len()),
+                (0, moves),
+                "height {height}, node {node}"
+            );
             let six = Lent {
                 height,
                 table: &held,

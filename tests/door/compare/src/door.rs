@@ -36,6 +36,10 @@ fn record(read: &Read) -> Record {
             pages: read.size,
         },
         4 => Record::Release { tenant: read.who },
+        5 => Record::Grow {
+            tenant: read.who,
+            level: byte(read.size),
+        },
         kind => panic!("a record of kind {kind}"),
     }
 }
@@ -76,6 +80,13 @@ impl Subject for Door {
         let (table, table_length) = (table.as_mut_ptr(), table.len());
         let (moves, moves_length) = (moves.as_mut_ptr(), moves.len());
         unsafe { reserve_release(narrow(height), table, table_length, moves, moves_length, narrow(tenant)) }.into()
+    }
+
+    fn grow(&mut self, height: u32, table: &mut [u8], moves: &mut [u8], tenant: u32, level: u32) -> Reply {
+        let (table, table_length) = (table.as_mut_ptr(), table.len());
+        let (moves, moves_length) = (moves.as_mut_ptr(), moves.len());
+        let (height, tenant, level) = (narrow(height), narrow(tenant), narrow(level));
+        unsafe { reserve_grow(height, table, table_length, moves, moves_length, tenant, level) }.into()
     }
 
     fn node_pages(&mut self, height: u32, node: Node) -> subject::Pages {
@@ -132,6 +143,7 @@ impl Subject for Door {
                 Record::GrantLevel { tenant, level } => reserve_write_grant_level(tenant, level, out, length),
                 Record::GrantPages { tenant, pages } => reserve_write_grant_pages(tenant, pages, out, length),
                 Record::Release { tenant } => reserve_write_release(tenant, out, length),
+                Record::Grow { tenant, level } => reserve_write_grow(tenant, level, out, length),
             }
         };
         let bytes = if written.answer == 0 { record.bytes().len() } else { 0 };

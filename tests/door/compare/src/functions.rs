@@ -63,6 +63,15 @@ extern "C" {
         moves_length: usize,
         tenant: u16,
     ) -> Outcome;
+    pub fn reserve_grow(
+        height: u16,
+        table: *mut u8,
+        table_length: usize,
+        moves: *mut u8,
+        moves_length: usize,
+        tenant: u16,
+        level: u16,
+    ) -> Outcome;
     pub fn reserve_node_pages(height: u16, node: u16) -> Pages;
     pub fn reserve_draw(height: u16, table: *const u8, table_length: usize, map: *mut u8, map_length: usize) -> u16;
     pub fn reserve_count(map: *const u8, map_length: usize) -> Counted;
@@ -71,4 +80,5 @@ extern "C" {
     pub fn reserve_write_grant_level(tenant: u16, level: u8, out: *mut u8, out_length: usize) -> Written;
     pub fn reserve_write_grant_pages(tenant: u16, pages: u16, out: *mut u8, out_length: usize) -> Written;
     pub fn reserve_write_release(tenant: u16, out: *mut u8, out_length: usize) -> Written;
+    pub fn reserve_write_grow(tenant: u16, level: u8, out: *mut u8, out_length: usize) -> Written;
 }

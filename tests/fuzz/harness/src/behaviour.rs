@@ -2,7 +2,7 @@
 //!
 //! A counter stands for a kind of call with its height and answer, or for the list of an accepted call: the level of each
 //! mover, in order, and whether it is staged. An input that raises a new one is kept, so the search also goes for
-//! behaviour that runs no new code: a move on one more level, a release that moves four, two movers in another order.
+//! behaviour that runs no new code: a move on one more level, a growth that moves seven, two movers in another order.
 
 use std::hash::{DefaultHasher, Hash, Hasher};
 use std::ptr::addr_of_mut;
@@ -34,6 +34,7 @@ enum Kind {
     GrantLevel,
     GrantPages,
     Release,
+    Grow,
 }
 
 /// A planner that is watched.
@@ -50,7 +51,12 @@ fn note(kind: Kind, height: u32, moves: &[u8], reply: Reply) -> Reply {
             .filter(|step| in_tree(step.old))
             .map(|step| (tree.level(step.old), step.staged))
             .collect();
-        count((matches!(kind, Kind::Release), list));
+        // Both grants have the same lists.
+        let kind = match kind {
+            Kind::GrantPages => Kind::GrantLevel,
+            _ => kind,
+        };
+        count((kind, list));
     }
     reply
 }
@@ -77,6 +83,11 @@ impl<S: Subject> Subject for Watched<S> {
     fn release(&mut self, height: u32, table: &mut [u8], moves: &mut [u8], tenant: u32) -> Reply {
         let reply = self.0.release(height, table, moves, tenant);
         note(Kind::Release, height, moves, reply)
+    }
+
+    fn grow(&mut self, height: u32, table: &mut [u8], moves: &mut [u8], tenant: u32, level: u32) -> Reply {
+        let reply = self.0.grow(height, table, moves, tenant, level);
+        note(Kind::Grow, height, moves, reply)
     }
 
     fn node_pages(&mut self, height: u32, node: Node) -> Pages {

@@ -159,7 +159,7 @@ fn journal(mut tape: Tape) -> Bytes {
 fn records(tape: &mut Tape) -> Vec<(Record, usize)> {
     let mut records = Vec::new();
     while !tape.is_at_end() {
-        let kind = tape.below(4);
+        let kind = tape.below(5);
         let length = tape.below(8) as usize;
         let record = match kind {
             0 => Record::Open { height: tape.byte() },
@@ -171,7 +171,11 @@ fn records(tape: &mut Tape) -> Vec<(Record, usize)> {
                 tenant: tape.word(),
                 pages: tape.word(),
             },
-            _ => Record::Release { tenant: tape.word() },
+            3 => Record::Release { tenant: tape.word() },
+            _ => Record::Grow {
+                tenant: tape.word(),
+                level: tape.byte(),
+            },
         };
         records.push((record, length));
     }

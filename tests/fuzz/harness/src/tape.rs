@@ -3,10 +3,10 @@
 use oracle::definitions::{Tree, TALLEST};
 use oracle::generate::{Call, Holder};
 use oracle::planner::{Request, TENANTS};
-use oracle::subject::FEWEST_MOVE_BYTES;
+use oracle::subject::fewest_move_bytes;
 
 /// What is lent now and then instead of a list of moves that just suffices.
-const LIST_LENGTHS: [usize; 16] = [0, 1, 7, 8, 16, 24, 30, 31, 33, 34, 39, 40, 41, 48, 56, 64];
+const LIST_LENGTHS: [usize; 16] = [0, 1, 8, 16, 24, 30, 32, 31, 33, 40, 48, 55, 56, 57, 64, 72];
 
 /// Tenants about the largest number that there is, and about the ends of 16 bits.
 const TENANTS_AT_THE_EDGE: [u32; 8] = [4094, 4095, 4096, 4097, 0x1fff, 0x7fff, 0x8000, 0xffff];
@@ -126,7 +126,7 @@ impl<'a> Tape<'a> {
         }
     }
 
-    /// A grant or a release with the list that is lent for it: three bytes.
+    /// A grant, a release or a growth with the list that is lent for it: two or three bytes.
     pub fn call(&mut self, tree: Tree, holds: impl Fn(u32) -> bool) -> Call {
         let byte = self.byte();
         let tenant = self.tenant(holds);
@@ -139,10 +139,14 @@ impl<'a> Tape<'a> {
                 tenant,
                 pages: self.pages(tree),
             },
-            _ => Request::Release { tenant },
+            2 => Request::Release { tenant },
+            _ => Request::Grow {
+                tenant,
+                level: self.level(tree),
+            },
         };
         let move_bytes = match usize::from(byte / 4).checked_sub(48) {
-            None => FEWEST_MOVE_BYTES,
+            None => fewest_move_bytes(request),
             Some(place) => LIST_LENGTHS[place],
         };
         Call { request, move_bytes }

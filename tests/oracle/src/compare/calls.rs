@@ -197,12 +197,7 @@ pub(super) fn on_every_counts(
 }
 
 /// Runs one call on a reserve that these tenants hold.
-pub(super) fn check_one(
-    subject: &mut dyn Subject,
-    height: u32,
-    holders: &[Holder],
-    call: Call,
-) -> Result<(), String> {
+pub(super) fn check_one(subject: &mut dyn Subject, height: u32, holders: &[Holder], call: Call) -> Result<(), String> {
     let history = History {
         height,
         start: Some(holders.to_vec()),

@@ -97,7 +97,7 @@ impl GrowthFault {
     }
 
     /// What comes of a growth that is accepted, if it is not what should.
-    pub fn when_done(self, wrong: &Wrong, after: &[Node], list: &[Move]) -> Option<Other> {
+    pub(super) fn when_done(self, wrong: &Wrong, after: &[Node], list: &[Move]) -> Option<Other> {
         let (tree, before, own) = (wrong.tree, wrong.before, wrong.tenant());
         let (old, new) = (before[own], after[own]);
         match self {

@@ -13,8 +13,8 @@ use oracle::page_map::MAP_BYTES;
 use oracle::planner::Request;
 use oracle::refusal::{Refusal, DONE};
 use oracle::subject::{
-    ask, fewest_move_bytes, moves_from, put_moves, table_from, table_image, Count, Oracle, Pages, Reach, Reply, Subject,
-    MOVE_BYTES, TABLE_BYTES,
+    ask, fewest_move_bytes, moves_from, put_moves, table_from, table_image, Count, Oracle, Pages, Reach, Reply,
+    Subject, MOVE_BYTES, TABLE_BYTES,
 };
 
 /// The one mistake.
@@ -485,6 +485,7 @@ impl Faulty {
         reply: Reply,
     ) -> Reply {
         let after = table_from(table);
+        let list = moves_from(moves, reply.moves);
         let is_grant = wrong.request.is_grant();
         let mut again = |after: Option<Vec<Node>>| {
             moves.copy_from_slice(lent_moves);
@@ -536,18 +537,16 @@ impl Faulty {
                 entries.for_each(|entry| entry[6..].reverse());
                 reply
             }
-            Fault::Growth(fault) if wrong.request.is_growth() => {
-                match fault.when_done(wrong, &after, &moves_from(moves, reply.moves)) {
-                    Some(Other::Table(after)) => again(Some(after)),
-                    Some(Other::Refused) => again(None),
-                    Some(Other::List(list)) => {
-                        put_moves(&list, moves);
-                        let moves = list.len() as u32;
-                        Reply { moves, ..reply }
-                    }
-                    None => reply,
+            Fault::Growth(fault) if wrong.request.is_growth() => match fault.when_done(wrong, &after, &list) {
+                Some(Other::Table(after)) => again(Some(after)),
+                Some(Other::Refused) => again(None),
+                Some(Other::List(list)) => {
+                    put_moves(&list, moves);
+                    let moves = list.len() as u32;
+                    Reply { moves, ..reply }
                 }
-            }
+                None => reply,
+            },
             Fault::List(fault) => {
                 let tables = Tables {
                     tree: wrong.tree,
@@ -561,7 +560,9 @@ impl Faulty {
                 moves[reply.moves as usize * MOVE_BYTES..].fill(0);
                 reply
             }
-            Fault::ReleaseReportsNoNode if matches!(wrong.request, Request::Release { .. }) => Reply { node: 0, ..reply },
+            Fault::ReleaseReportsNoNode if matches!(wrong.request, Request::Release { .. }) => {
+                Reply { node: 0, ..reply }
+            }
             _ => reply,
         }
     }
@@ -688,7 +689,15 @@ impl Subject for Faulty {
             }
             Fault::RefusalAtTheWrongOffset if is(Refusal::CutShort) => refused(Refusal::CutShort, journal.len()),
             Fault::OneOffsetMisread if offset == 43_210 => Oracle.read(journal, offset + 1),
-            Fault::GrowthUnknown if matches!(honest, Reading::Record { record: Record::Grow { .. }, .. }) => {
+            Fault::GrowthUnknown
+                if matches!(
+                    honest,
+                    Reading::Record {
+                        record: Record::Grow { .. },
+                        ..
+                    }
+                ) =>
+            {
                 refused(Refusal::UnknownKind, offset)
             }
             _ => honest,
