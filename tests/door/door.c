@@ -489,17 +489,62 @@ static void growing(void) {
 
 /* Height 9, with the counts 3, 3, 3, 1, 3, 1, 1, 2 on levels 0 to 7, held by tenants 0 to 16 from the lowest node on. A tenant
  * on node 257 or 258 that grows to level 5 moves seven others, and one on 259 six. */
-static const unsigned crowd[] = {4, 6, 10, 14, 30, 32, 33, 34, 62, 126, 127, 254, 257, 258, 259, 512, 513};
-enum { CROWD = sizeof crowd / sizeof crowd[0] };
+static const unsigned crowd[] = {5, 6, 14, 18, 34, 35, 38, 67, 130, 131, 132, 257, 258, 259, 512, 513, 532};
 
 static void seat_crowd(struct lent table) {
     unsigned tenant;
-    for (tenant = 0; tenant < CROWD; tenant++) {
+    for (tenant = 0; tenant < sizeof crowd / sizeof crowd[0]; tenant++) {
         put_node(table, tenant, crowd[tenant]);
     }
 }
 
+/* the last ones of the list, which are the same for all three */
+static int is_end_of_list(struct lent moves, unsigned place) {
+    return is_direct(moves, place, 16, 532, 518) && is_direct(moves, place + 1, 7, 67, 66) &&
+           is_staged(moves, place + 2, 2, 14, 10) && is_staged(moves, place + 3, 10, 132, 134);
+}
+
 static void seven_moves(void) {
+    unsigned tenant, i;
+    for (tenant = 11; tenant <= 13; tenant++) {
+        struct box box = open_box(9);
+        unsigned moved = crowd[tenant] == 259 ? 6 : 7;
+        seat_crowd(box.table);
+        EXPECT(granted(box, grow(box, (uint16_t)tenant, 5), tenant, 19, moved));
+        EXPECT(is_direct(box.moves, 0, 0, 5, 7) && is_direct(box.moves, 1, 6, 38, 44));
+        EXPECT(moved == 6 || is_direct(box.moves, 2, 13, 259, crowd[tenant]));
+        EXPECT(is_end_of_list(box.moves, moved - 4));
+        for (i = 0; i < moved; i++) {
+            const uint8_t *move = box.moves.bytes + RESERVE_MOVE_BYTES * i;
+            EXPECT(node_of(box.table, word(move)) == word(move + 4));
+        }
+        EXPECT(granted(box, grow(box, (uint16_t)tenant, 1), tenant, 259, 6));
+        close_box(box);
+    }
+}
+
+/* seven moves go into just the bytes that have to be lent, and with one byte fewer nothing is done; more are left alone */
+static void bytes_of_seven_moves(void) {
+    static const size_t lengths[] = {55, 56, 57, 64};
+    size_t i, n;
+    for (i = 0; i < sizeof lengths / sizeof lengths[0]; i++) {
+        struct lent table = lend(RESERVE_TABLE_BYTES, 0);
+        struct lent moves = lend(lengths[i], 0x22);
+        struct reserve_outcome got;
+        seat_crowd(table);
+        got = reserve_grow(9, table.bytes, table.length, moves.bytes, moves.length, 11, 5);
+        if (lengths[i] < RESERVE_GROW_MOVES_BYTES) {
+            EXPECT(refused(got, RESERVE_REFUSED_MOVES));
+            EXPECT(all_are(moves, 0x22) && node_of(table, 0) == 5 && node_of(table, 11) == 257);
+        } else {
+            EXPECT(got.answer == RESERVE_DONE && got.node == 19 && got.moves == 7 && is_end_of_list(moves, 3));
+            for (n = RESERVE_GROW_MOVES_BYTES; n < moves.length; n++) {
+                EXPECT(moves.bytes[n] == 0x22);
+            }
+        }
+        give_back(table);
+        give_back(moves);
+    }
 }
 
 /* every refusal of a growth, with all later ones present too: the first is answered, and no byte changes */
@@ -623,6 +668,15 @@ static void side_by_side(void) {
         EXPECT(same(got, grant_level(apart, (uint16_t)t, levels[t])) && got.answer == RESERVE_DONE);
         EXPECT(memcmp(table, apart.table.bytes, RESERVE_TABLE_BYTES) == 0);
         EXPECT(memcmp(moves, apart.moves.bytes, RESERVE_MOVES_BYTES) == 0);
+    }
+    for (t = 0; t < sizeof levels; t++) {
+        uint8_t *moves = t % 2 == 0 ? table - RESERVE_GROW_MOVES_BYTES : behind;
+        struct reserve_outcome got;
+        memset(moves, 0x77, RESERVE_GROW_MOVES_BYTES);
+        got = reserve_grow(5, table, RESERVE_TABLE_BYTES, moves, RESERVE_GROW_MOVES_BYTES, (uint16_t)t, levels[t] / 2);
+        EXPECT(same(got, grow(apart, (uint16_t)t, levels[t] / 2)) && got.answer == RESERVE_DONE);
+        EXPECT(memcmp(table, apart.table.bytes, RESERVE_TABLE_BYTES) == 0);
+        EXPECT(memcmp(moves, apart.moves.bytes, RESERVE_GROW_MOVES_BYTES) == 0);
     }
     EXPECT(reserve_draw(5, apart.table.bytes, RESERVE_TABLE_BYTES, map.bytes, RESERVE_MAP_BYTES) == RESERVE_DONE);
     EXPECT(reserve_draw(5, table, RESERVE_TABLE_BYTES, joint.bytes, RESERVE_MAP_BYTES) == RESERVE_DONE);
@@ -763,6 +817,7 @@ int main(void) {
     everybody();
     growing();
     seven_moves();
+    bytes_of_seven_moves();
     arguments_of_growth();
     bytes_of_growth();
     page_map();

@@ -39,7 +39,7 @@ pub struct Tables<'a> {
 pub type Example = (u32, &'static [(Node, Node)], &'static str, &'static str);
 
 impl ListFault {
-    /// The mistakes that reserves show.
+    /// The mistakes that grants and releases show.
     pub const ON_RESERVES: [ListFault; 9] = [
         ListFault::EverybodyStaged,
         ListFault::NobodyStaged,
@@ -52,13 +52,15 @@ impl ListFault {
         ListFault::StagedBeforeDirect,
     ];
 
-    /// The mistakes that no reserve shows, because in each the fewest pages are those of one staged set, and that has one
-    /// tenant at most. They show on other movers alone.
-    pub const ON_OTHER_MOVERS: [ListFault; 4] = [
+    /// The mistake that growths alone show, because no other call stages two.
+    pub const ON_GROWTHS: [ListFault; 1] = [ListFault::StagedByLevel];
+
+    /// The mistakes that no reserve shows, because in each the fewest pages are those of one staged set, and no set with more
+    /// pages has fewer tenants. They show on other movers alone.
+    pub const ON_OTHER_MOVERS: [ListFault; 3] = [
         ListFault::FewestTenantsBeforePages,
         ListFault::TenantsNotCounted,
         ListFault::LaterOfTwoEqualSets,
-        ListFault::StagedByLevel,
     ];
 
     /// Movers that show the mistake.

@@ -45,7 +45,7 @@ impl MadeUp {
             let level = tree.level(made_up.before[tenant]);
             made_up.after[tenant] = free_at(random, tree, &made_up.after, level)?;
         }
-        // One more is released, or comes, or neither, or grows; if its level stays the same it is one more mover.
+        // One more is released, or comes, or neither, or grows.
         let (released, comes) = random.pick(&[(true, false), (false, true), (false, false), (true, true)]);
         if released {
             made_up.before[*caller] = any_free(random, tree, &made_up.before)?;
@@ -53,7 +53,8 @@ impl MadeUp {
         if comes {
             made_up.after[*caller] = any_free(random, tree, &made_up.after)?;
         }
-        Some(made_up)
+        let is_mover = released && comes && tree.level(made_up.before[*caller]) == tree.level(made_up.after[*caller]);
+        (!is_mover).then_some(made_up)
     }
 }
 
