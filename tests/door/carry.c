@@ -28,7 +28,7 @@ static const struct {
     {NEWCOMER_FIRST, 1, "the newcomer is written first"},
     {RELEASED_LAST, 0, "a released block is given up last"},
     {GROWN_FIRST, 1, "a growing tenant is set down first"},
-    {GROWN_LEFT_LYING, 1, "a growing tenant is lifted last"},
+    {GROWN_LEFT_LYING, 1, "a tenant that gets a larger block is lifted last"},
 };
 
 /* ---- a reserve with its pages */
@@ -179,14 +179,17 @@ static void lift_own(struct box *box, unsigned tenant, unsigned node) {
 }
 
 static void carry_out_growth(struct box *box, unsigned tenant, struct reserve_outcome got) {
-    if (box->way != GROWN_LEFT_LYING) {
+    /* one that shrinks could lose no data by it, where others come to lie on what it gives up */
+    int is_larger = pages_of(box, got.node).count > pages_of(box, box->node[tenant]).count;
+    int lies = box->way == GROWN_LEFT_LYING && is_larger;
+    if (!lies) {
         lift_own(box, tenant, got.node);
     }
     if (box->way == GROWN_FIRST) {
         set_down(box, tenant, got.node, box->own);
     }
     work_list(box, got.moves);
-    if (box->way == GROWN_LEFT_LYING) {
+    if (lies) {
         lift_own(box, tenant, got.node);
     }
     if (box->way != GROWN_FIRST) {
