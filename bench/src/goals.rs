@@ -112,9 +112,8 @@ pub fn of_counts(rows: &[Row], counts: &[Count]) -> Vec<Goal> {
 fn growth_against_grant(height: u16, rows: &[Row], counts: &[Count]) -> Option<Goal> {
     let library = || counts.iter().filter(|count| count.who == "library");
     let in_rows = |call: &'static str| {
-        let chosen = move |count: &&Count| {
-            count.set == "row" && count.call == call && rows[count.place].height == height
-        };
+        let chosen =
+            move |count: &&Count| count.set == "row" && count.call == call && rows[count.place].height == height;
         library().filter(chosen)
     };
     let granted = in_rows("grant").filter(|count| count.answer == 0);

@@ -79,7 +79,8 @@ impl Reserve {
     /// The first and the last holder of each level, as they were drawn.
     fn ends(&self) -> impl Iterator<Item = &Holder> {
         let of_level = |level| self.holders.iter().filter(move |holder| holder.level == level);
-        let ends = (0..=self.height.into()).flat_map(move |level| [of_level(level).next(), of_level(level).next_back()]);
+        let ends =
+            (0..=self.height.into()).flat_map(move |level| [of_level(level).next(), of_level(level).next_back()]);
         ends.flatten()
     }
 
