@@ -12,8 +12,10 @@ use crate::rows::{outcome_of, HEIGHTS, SEED};
 /// The fewest calls of a history; it goes to full and back as often as that takes.
 const CALLS: usize = 400;
 
-/// How many reserves are searched for calls with the most moves, and how many of these calls are kept.
+/// How many reserves are searched for calls with the most moves, fewer where there are more calls to each, and how many of these
+/// calls are kept.
 const SEARCHED: usize = 200;
+const SEARCHED_FOR_GROWTHS: usize = 40;
 const KEPT: usize = 8;
 
 /// What is counted at a height besides the rows of the table.
@@ -142,7 +144,7 @@ fn most_moves(height: u16, random: &mut Random) -> Vec<Input> {
 fn growths(height: u16) -> Vec<Input> {
     let mut random = Random::new(SEED);
     let tree = Tree::new(height.into());
-    let drawn = (0..SEARCHED).map(|_| nearly_full(&mut random, tree));
+    let drawn = (0..SEARCHED_FOR_GROWTHS).map(|_| nearly_full(&mut random, tree));
     let sharp = (tree.height() >= MOST_MOVED.height).then_some(MOST_MOVED.counts);
     let counts: Vec<Counts> = drawn.chain(sharp).collect();
     let mut growths = Vec::new();

@@ -59,7 +59,7 @@ struct reserve_outcome __wrap_reserve_grant_pages(uint16_t height, uint8_t *tabl
     return got;
 }
 
-/* 10: a growth that moves five tells the last one's new node wrong.
+/* 10: a growth that moves four or more tells the last one's new node wrong.
  * 11: a growth that stages two tells the first of them as direct.
  * 12: a tenant of level 5 or more that shrinks to level 0 is told to be on the next node, on a reserve of height 8.
  * 13: a growth to the level that the tenant has is taken with four entries. */
@@ -69,7 +69,7 @@ struct reserve_outcome __wrap_reserve_grow(uint16_t height, uint8_t *table, size
     int node = in_table ? number(table + 2 * tenant) : 0;
     struct reserve_outcome got = __real_reserve_grow(height, table, table_length, moves, moves_length, tenant, level);
     uint8_t *last = moves + (got.moves > 0 ? got.moves - 1 : 0) * RESERVE_MOVE_BYTES;
-    if (MISTAKE == 10 && got.moves == 5) last[4] ^= 1;
+    if (MISTAKE == 10 && got.moves >= 4) last[4] ^= 1;
     if (MISTAKE == 11 && got.moves > 1 && (last - RESERVE_MOVE_BYTES)[6] == 1) (last - RESERVE_MOVE_BYTES)[6] = 0;
     if (MISTAKE == 12 && got.answer == RESERVE_DONE && height == 8 && level == 0 && node < 16) got.node ^= 1;
     if (MISTAKE == 13 && got.answer == RESERVE_REFUSED_MOVES && moves_length >= RESERVE_MOVES_BYTES && in_table && level < height &&
