@@ -21,7 +21,7 @@ pub const MOST_FOR_RELEASE: usize = 4;
 pub const MOST_FOR_GROWTH: usize = 7;
 
 /// The most tenants that a call may move, its own left out.
-pub fn most_moves(request: Request) -> usize {
+fn most_moves(request: Request) -> usize {
     match request {
         Request::GrantLevel { .. } | Request::GrantPages { .. } => MOST_FOR_GRANT,
         Request::Release { .. } => MOST_FOR_RELEASE,

@@ -33,11 +33,12 @@ pub struct Holder {
     pub level: u32,
 }
 
-/// Growths that move the most others: from a reserve of at least some height, with these counts, those of the tenants of one
-/// level to another.
+/// A reserve on which growths move the most others.
 pub struct MostMoved {
+    /// The least height that has room for the counts, and for the tenant's new block.
     pub height: u32,
     pub counts: Counts,
+    /// The level of the tenants that grow, and the one that they grow to.
     pub from: u32,
     pub to: u32,
 }
