@@ -23,7 +23,7 @@ formerGrant h T t p m =
     let checked = reserve-checks h T ++ list-checks 4 t m ++ pages-check h p ∷ check 7 (not (in-order? h T)) ∷ grant-holdings h T t l in
     unless (first checked) T (granted h T (layoutSet h (oneMore (countsOf h T) l)) t l)
 
--- what a call did: the others did what they do, and a growth, which no journal had, is taken to have done so too
+-- what a call did: the others did what they do; a growth, which old journals do not have, is answered as it is now
 unfoldable pub formerStep : ℕ → List ℕ → Call → Outcome
 formerStep h T (grant-level t l m) = step h T (grant-level t l m)
 formerStep h T (grant-pages t p m) = formerGrant h T t p m
