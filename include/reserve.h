@@ -9,14 +9,18 @@
  * its level, k = n - 2^(h-l), covers the pages k * 2^l to (k + 1) * 2^l - 1.
  *
  * Tenants are numbered 0 to 4095. Each holds at most one block, and a block is one node. Where the blocks lie depends on
- * nothing but how many are held on each level, so a grant or a release may have to move other tenants: a grant at most
- * three, a release at most four. The planner says who moves from where to where; copying the pages is the caller's work (THE
- * MOVES, below). reserve_node_pages says which pages a node covers.
+ * nothing but how many are held on each level, so a call may have to move other tenants: a grant at most three, a release at
+ * most four, a growth at most seven. The planner says who moves from where to where; copying the pages is the caller's work
+ * (THE MOVES, below). reserve_node_pages says which pages a node covers.
  *
  * A grant names its block by level or by pages. A tenant that names pages gets one more, a guard page right behind them, in
  * case it runs over: p pages, p above 0, get the smallest block of p + 1 or more. 0 pages name no size and get a block of 16
  * pages, or the whole of a reserve under height 4, without a guard page. A block that is named by its level has just its
  * 2^level pages: who needs a single page asks for level 0.
+ *
+ * A tenant can exchange its block for a larger or a smaller one: it grows, up or down, to a level. Its old block counts as
+ * given back, so there is room if the pages of the others and of the new block are no more than the reserve has. If there is no
+ * room, it keeps its block.
  *
  * THE MOVES
  *
@@ -27,14 +31,16 @@
  *   1. Copy the pages of every staged tenant out of the reserve, to room of your own.
  *   2. Go through the list from its first entry to its last. Copy a tenant that is not staged from its old pages to its new
  *      ones; copy a staged one from that room to its new pages. The staged ones stand behind all others.
- *   3. After a grant, write the newcomer's pages now and not before.
+ *   3. After a grant, write the newcomer's pages now and not before; after a growth, those of the tenant that has grown.
  *
- * Then every page is free at the moment when it is written. The pages of a released block are free from the start: what is
- * still wanted of them has to be taken before step 1.
+ * Then every page is free at the moment when it is written. The pages of a released block and the old pages of a tenant that
+ * grows are free from the start: what is still wanted of them has to be taken before step 1. A tenant that grows is not in the
+ * list, and can keep as much as both of its blocks have room for.
  *
  * The room has to hold the pages of all staged entries of the list together. No way to carry out the same moves needs
  * less. Read from each list how many they are. Tests have found no grant and no release that stages more than one tenant, or
- * more than a quarter of the reserve, but that is no promise; 2^h pages are enough for every list.
+ * more than a quarter of the reserve, and @@GROWTH@@, but that is no promise; 2^h pages are enough for every
+ * list, with what a growing tenant keeps.
  *
  * examples/carry.c does all this with real bytes.
  *
@@ -140,8 +146,9 @@ enum reserve_answer {
     RESERVE_REFUSED_PAGES = 6,         /* the pages with their guard page are more than the reserve has: 2^h or more are named */
     RESERVE_REFUSED_NOT_IN_ORDER = 7,  /* the table is none that this planner leaves at this height; or a number is no node */
     RESERVE_REFUSED_HOLDS = 8,         /* a grant to a tenant that holds a block */
-    RESERVE_REFUSED_HOLDS_NONE = 9,    /* a release by a tenant that holds none */
-    RESERVE_REFUSED_NO_ROOM = 10,      /* the pages held and the new block are more than the reserve has */
+    RESERVE_REFUSED_HOLDS_NONE = 9,    /* a release or a growth by a tenant that holds none */
+    RESERVE_REFUSED_NO_ROOM = 10,      /* the pages held and the new block are more than the reserve has; of a growth, those of the
+                                          others and its new block */
     RESERVE_REFUSED_NO_OPEN = 11,      /* the journal is empty, or its first record is no open */
     RESERVE_REFUSED_UNKNOWN_KIND = 12, /* a record of a kind that there is not */
     RESERVE_REFUSED_CUT_OFF = 13,      /* the journal ends inside a record */
@@ -160,10 +167,10 @@ enum reserve_kind {
     RESERVE_KIND_GROW = 5         /* tenant, two bytes; level, one byte */
 };
 
-/* What a grant or a release reports. */
+/* What a grant, a release or a growth reports. */
 struct reserve_outcome {
     uint16_t answer; /* enum reserve_answer */
-    uint16_t node;   /* the newcomer's node, or the node given up */
+    uint16_t node;   /* the tenant's node, or the node given up */
     uint16_t moves;  /* how many moves stand at the front of the bytes lent for them */
 };
 
@@ -185,7 +192,7 @@ struct reserve_reading {
     uint16_t answer; /* enum reserve_answer: 0, or 11 to 14 or 16 */
     uint16_t kind;   /* enum reserve_kind: 0 past the last byte */
     uint16_t who;    /* the height of an open, else the tenant */
-    uint16_t size;   /* the level or the pages of a grant, else 0 */
+    uint16_t size;   /* the level or the pages of a grant, the level of a growth, else 0 */
     size_t offset;   /* where the next record begins; past the last byte, the offset asked; of a refusal, the offset of the
                         record that it concerns (0 for 11 and 16) */
 };
@@ -212,7 +219,8 @@ struct reserve_outcome reserve_grant_pages(uint16_t height, uint8_t *table, size
 struct reserve_outcome reserve_release(uint16_t height, uint8_t *table, size_t table_length, uint8_t *moves,
                                        size_t moves_length, uint16_t tenant);
 
-/* Gives a tenant a block of 2^level pages for the one that it has. Answers 0, or 1 to 5, 7, 9 or 10. */
+/* Gives a tenant a block of 2^level pages in the place of the one that it has; the level that it has leaves it its block, without
+ * moves. Takes RESERVE_GROW_MOVES_BYTES for the moves. Answers 0, or 1 to 5, 7, 9 or 10. */
 struct reserve_outcome reserve_grow(uint16_t height, uint8_t *table, size_t table_length, uint8_t *moves,
                                     size_t moves_length, uint16_t tenant, uint16_t level);
 

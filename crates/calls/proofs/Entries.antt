@@ -41,10 +41,6 @@ module _ (h : ℕ) (T : List ℕ) (c : Call) where
   unfolding step
   done-table e = passed-table h T c (zero-passes (first (checks h T c)) T (accepted h T c) e)
 
-  pub done-entries : step h T c .answer ≡ 0 → leastEntries c ≤ entriesOf c
-  unfolding step
-  done-entries e = passed-entries h T c (zero-passes (first (checks h T c)) T (accepted h T c) e)
-
   -- a refused call has no moves, and an accepted one has entries for them
   pub moves-within : length (step h T c .moves) ≤ leastEntries c → length (step h T c .moves) ≤ entriesOf c
   unfolding step

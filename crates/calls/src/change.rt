@@ -7,7 +7,7 @@ ghost use Rattle.calls.specs.Call.{tenantOf};
 ghost use Rattle.calls.specs.Step.{first, size-checks};
 ghost use Rattle.calls.specs.Value.{callOf, Gives};
 ghost use Rattle.calls.specs.Changes.{Ready, Looked, without as Changes·without, Target, Resettled};
-ghost use Rattle.calls.specs.Changes.{placeOn, grantOn, releaseOn, growOn, changeOn};
+ghost use Rattle.calls.specs.Changes.{placeOn, grantOn, releaseOn, changeOn};
 use crate::Answer;
 use crate::Call;
 use crate::Called;
@@ -52,7 +52,12 @@ pub fn change(height: u16, table: &mut [u16], call: Call) -> Called
             )
         }
         Call::Release { tenant } => give_up(height, table, tenant, counts, &owners),
-        Call::Grow { tenant, level } => grow(height, table, tenant, level, counts, &owners),
+        Call::Grow { tenant, level } => {
+            if table[tenant as usize] == 0 {
+                return refused(HOLDS_NONE);
+            }
+            place(height, table, tenant, level, counts, &owners)
+        }
     }
 }
 
@@ -73,27 +78,6 @@ fn grant(
     let t = tenant as usize;
     if table[t] != 0 {
         return refused(HOLDS);
-    }
-    place(height, table, tenant, level, counts, owners)
-}
-
-// Exchanges the tenant's block for one of the level on a table in order, unless it holds none or there is no room.
-fn grow(
-    height: u16,
-    table: &mut [u16],
-    tenant: u16,
-    level: u16,
-    counts: Counts,
-    owners: &[u16; NODES],
-) -> Called
-    requires ready { ⌜ Ready height (now table) tenant ⌝ }
-    requires level { ⌜ level ≤ height ⌝ }
-    requires looked { ⌜ Looked height (now table) (counts .at) (now owners) ⌝ }
-    ensures { λ r. ⌜ Gives (growOn height (now (table .entry)) tenant level) r (now (table .exit)) ⌝ }
-{
-    let t = tenant as usize;
-    if table[t] == 0 {
-        return refused(HOLDS_NONE);
     }
     place(height, table, tenant, level, counts, owners)
 }

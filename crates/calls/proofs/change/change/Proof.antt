@@ -3,16 +3,18 @@ use borrow.Author.Needs.{needs}
 use Rattle.calls.proofs.change.change.Statement.{statement}
 use Rattle.calls.proofs.change.change.Tie as tie
 use mathlib.Core.Path.{_≡_, sym, ap, subst, _∙_}
+use native.Mathlib.Omega.{arith}
 use borrow.Author.Tests.{not-true, not-false}
 use Rattle.survey.proofs.Surveyed.{Surveyed, surveyed}
+use Rattle.calls.specs.Call.{tenantOf}
+use Rattle.calls.specs.Step.{first, size-checks}
 use Rattle.calls.specs.Value.{callOf}
 use Rattle.calls.specs.Demand.{by-level, by-pages, grows}
 use Rattle.calls.specs.Changes.{Ready, Looked, grantOn, changeOn}
-use Rattle.calls.specs.Call.{tenantOf}
-use Rattle.calls.specs.Step.{first, size-checks}
 use Rattle.calls.specs.declared.Call.{Call}
 use Rattle.calls.proofs.Checks.{asked-in-height, grown-in-height}
 use Rattle.calls.proofs.Given.{gives-same}
+use Rattle.calls.proofs.Changing.{grow-of-nobody, grow-places}
 use Rattle.calls.proofs.Changing.{change-disordered, change-grants, change-grants-pages, change-releases, change-grows}
 
 abbrev started : tie.After-counts → tie.Start
@@ -101,26 +103,53 @@ give-up-requires c κs =
 enum-known-call-4 : tie.Need-enum-known-call-4
 enum-known-call-4 c = search needs
 
-grow-requires : tie.Need-grow-requires
-grow-requires c κs =
-    let x = c .before .before .before .before .before in
-    let is = c .before .before .before .call4 .given .1 in
-    (ready-of x is, (grown-in-height _ _ _ (grows {t = 0} {m = 0}) (size-of x is), looked x))
+cast-if2 : tie.Need-cast-if2
+cast-if2 c = search needs
+
+mul-if2 : tie.Need-mul-if2
+mul-if2 c = search needs
+
+slice-read-if2 : tie.Need-slice-read-if2
+slice-read-if2 c =
+    let x = c .before .before .before .before in
+    let is = c .before .before .call4 .given .1 in
+    let ready = ready-of x is in
+    omega (arith, ready .tenant, ready .entries)
+
+refused-requires-2 : tie.Need-refused-requires-2
+refused-requires-2 c κs = search needs
 
 same-length-2 : tie.Need-same-length-2
 same-length-2 c = search needs
 
 returns-2 : tie.Need-returns-2
 returns-2 c =
-    let x = c .before .before .before .before .before .before .before .before in
-    let is = c .before .before .before .before .before .before .call .given .1 in
-    gives-same (c .before .before .grant .ensures) (change-grants _ _ (looked x .in-order) _ _ ∙ by-kind x is)
+    let x = c .before .before .before .before .before .before in
+    let is = c .before .before .before .before .call4 .given .1 in
+    let T = started x .args .table .now in
+    let nobody = grow-of-nobody _ _ _ _ (c .before .if2 .taken) in
+    gives-same (c .refused2 .ensures T) (nobody ∙ change-grows _ _ (looked x .in-order) _ _ ∙ by-kind x is)
+
+place-requires : tie.Need-place-requires
+place-requires c κs =
+    let x = c .before .before .before .before .before .before .before in
+    let is = c .before .before .before .before .before .call4 .given .1 in
+    (ready-of x is, (grown-in-height _ _ _ (grows {t = 0} {m = 0}) (size-of x is), looked x))
 
 same-length-3 : tie.Need-same-length-3
 same-length-3 c = search needs
 
 returns-3 : tie.Need-returns-3
 returns-3 c =
+    let x = c .before .before .before .before .before .before .before .before in
+    let is = c .before .before .before .before .before .before .call .given .1 in
+    gives-same (c .before .before .grant .ensures) (change-grants _ _ (looked x .in-order) _ _ ∙ by-kind x is)
+
+same-length-4 : tie.Need-same-length-4
+same-length-4 c = search needs
+
+returns-4 : tie.Need-returns-4
+returns-4 c =
     let x = c .before .before .before .before .before .before .before .before .before in
     let is = c .before .before .before .before .before .before .before .call2 .given .1 in
     let a = started x .args in
@@ -128,23 +157,24 @@ returns-3 c =
     gives-same (c .before .before .grant2 .ensures)
     (ap (grantOn (a .height) (a .table .now) _) level ∙ change-grants-pages _ _ (looked x .in-order) _ _ ∙ by-kind x is)
 
-same-length-4 : tie.Need-same-length-4
-same-length-4 c = search needs
-
-returns-4 : tie.Need-returns-4
-returns-4 c =
-    let x = c .before .before .before .before .before .before .before .before in
-    let is = c .before .before .before .before .before .before .call3 .given .1 in
-    gives-same (c .before .before .give-up .ensures) (change-releases _ _ (looked x .in-order) _ ∙ by-kind x is)
-
 same-length-5 : tie.Need-same-length-5
 same-length-5 c = search needs
 
 returns-5 : tie.Need-returns-5
 returns-5 c =
     let x = c .before .before .before .before .before .before .before .before in
-    let is = c .before .before .before .before .before .before .call4 .given .1 in
-    gives-same (c .before .before .grow .ensures) (change-grows _ _ (looked x .in-order) _ _ ∙ by-kind x is)
+    let is = c .before .before .before .before .before .before .call3 .given .1 in
+    gives-same (c .before .before .give-up .ensures) (change-releases _ _ (looked x .in-order) _ ∙ by-kind x is)
+
+same-length-6 : tie.Need-same-length-6
+same-length-6 c = search needs
+
+returns-6 : tie.Need-returns-6
+returns-6 c =
+    let x = c .before .before .before .before .before .before .before .before .before .before in
+    let is = c .before .before .before .before .before .before .before .before .call4 .given .1 in
+    let placed = grow-places _ _ _ _ (c .before .before .before .before .before .if2 .left) in
+    gives-same (c .before .before .place .ensures) (placed ∙ change-grows _ _ (looked x .in-order) _ _ ∙ by-kind x is)
 
 pub change-spec : {M : Type 1} → statement M
 change-spec =
@@ -162,12 +192,18 @@ change-spec =
     enum-known-call-3
     give-up-requires
     enum-known-call-4
-    grow-requires
+    cast-if2
+    mul-if2
+    slice-read-if2
+    refused-requires-2
     same-length-2
     returns-2
+    place-requires
     same-length-3
     returns-3
     same-length-4
     returns-4
     same-length-5
-    returns-5)
+    returns-5
+    same-length-6
+    returns-6)
