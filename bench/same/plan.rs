@@ -49,8 +49,8 @@ impl Places {
     }
 }
 
-/// The least index from `from` on that is in `old` and not in `new`, or [`NONE`]. If the index before it is not in `old` either,
-/// or is in `new` too, it is one of those that are tried.
+/// The least index from `from` on that is in `old` and not in `new`, or [`NONE`]. It is `from` itself, or the index before it is
+/// not in `old` or is in `new`; all such indices are tried.
 fn least(old: &Places, new: &Places, from: u16) -> u16 {
     let behind = |index: u16| index.wrapping_add(1);
     let candidates = [

@@ -410,7 +410,7 @@ int main(int argc, char **argv) {
         check_height(&box, height, seed, HISTORIES * times);
     }
     check_total("grants and releases", &of_others, 1, PAGES / 4);
-    check_total("growths", &of_growths, 2, PAGES / 4);
+    check_total("growths", &of_growths, 2, PAGES / 32 * 5);
     for (size_t i = 0; i < sizeof wrong_ways / sizeof wrong_ways[0]; i++) {
         check_wrong_way(&box, i, seed);
     }
