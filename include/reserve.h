@@ -39,8 +39,8 @@
  *
  * The room has to hold the pages of all staged entries of the list together. No way to carry out the same moves needs
  * less. Read from each list how many they are. Tests have found no grant and no release that stages more than one tenant, or
- * more than a quarter of the reserve, and @@GROWTH@@, but that is no promise; 2^h pages are enough for every
- * list, with what a growing tenant keeps.
+ * more than a quarter of the reserve, and no growth that stages more than two, or more than 5/32 of it; but that is no promise.
+ * 2^h pages are enough for every list, with what a growing tenant keeps.
  *
  * examples/carry.c does all this with real bytes.
  *

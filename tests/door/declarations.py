@@ -128,8 +128,7 @@ def sizes():
     """The other constants, each from the definition that fixes it."""
     step = "crates/calls/specs/Step.antt"
     move = number("crates/reserve/specs/Door.antt", r"^entriesIn \w+ = length \w+ / (\d+)$")
-    # those that a grant or release needs, and those that a growth needs
-    entries = numbers(step, r"check 3 \(ltb m (\d+)\)")
+    entries = lambda kinds: number("crates/calls/specs/Call.antt", rf"^leastEntries \((?:{kinds}) .*\) = (\d+)$")
     return {
         "RESERVE_DONE": number(step, r"^first \[\] = (\d+)$"),
         "RESERVE_KIND_NONE": number("crates/reserve/specs/Records.antt", r"^readingOf at Read\.End = .*kind = (\d+);"),
@@ -137,8 +136,8 @@ def sizes():
         "RESERVE_TENANTS": number(step, r"check 4 \(ltb (\d+) t\)") + 1,
         "RESERVE_TABLE_BYTES": number("crates/image/specs/Image.antt", r"eqb \(length image\) (\d+)"),
         "RESERVE_MOVE_BYTES": move,
-        "RESERVE_MOVES_BYTES": min(entries) * move,
-        "RESERVE_GROW_MOVES_BYTES": max(entries) * move,
+        "RESERVE_MOVES_BYTES": entries("grant-level|grant-pages|release") * move,
+        "RESERVE_GROW_MOVES_BYTES": entries("grow") * move,
         "RESERVE_MAP_BYTES": number("crates/pagemap/specs/Draw.antt", r"check 15 \(ltb \(length m\) (\d+)\)"),
         "RESERVE_RECORD_BYTES": 1 + max(numbers("crates/journal/specs/Format.antt", r"^bodyLength Kind\.\w+ = (\d+)$")),
         "RESERVE_JOURNAL_BYTES": number("crates/journal/specs/Reader.antt", r"ltb (\d+) \(length journal\)"),
