@@ -13,7 +13,7 @@ use Rattle.tree.specs.Held.{Nodes, sizes, one-if}
 use Rattle.layout.specs.Set.{layoutSet}
 use Rattle.layout.specs.Change.{oneMore}
 use Rattle.layout.proofs.Theorems.{layout-has-counts}
-use Rattle.table.specs.Table.{nodeAt, occupied, countsOf, in-order?, InOrder}
+use Rattle.table.specs.Table.{nodeAt, occupied, in-order?, InOrder}
 use Rattle.table.specs.Pairing.{moved, movesOf}
 use Rattle.table.specs.Paired.{Mover, MoversPaired, MoversFill, NewcomerPaired}
 use Rattle.table.specs.Plan.{no-move}
@@ -46,7 +46,7 @@ use Rattle.calls.proofs.Releasing.{release-movable, release-in-order, r
 use Rattle.calls.proofs.Releasing.{fewer-sizes}
 use Rattle.calls.proofs.Same.{same-level-unchanged}
 use Rattle.calls.proofs.Cases.{both-zero, Granted, Released, Grown, Case, by-grant, by-release, by-growth, by-refusal, case}
-use Rattle.calls.proofs.Box.{of-grant, of-growth, Report, report}
+use Rattle.calls.proofs.Box.{of-grant, of-growth, report}
 
 -- the book that a table in order gives
 abbrev pub bookOf : ℕ → List ℕ → Book
@@ -196,7 +196,8 @@ module _ (h : ℕ) (T : List ℕ) (c : Call) (e : step h T c .answer ≡ 0) wher
       on-level = newcomer-level (coming-movable C) (coming-one-more C);
       a-node = newcomer-above-zero (coming-movable C) (coming-one-more C);
       newcomer-paired = subst (λ (A : Nodes). NewcomerPaired h A (tenantOf c) T (came .table)) (sym (fun-ext (coming-occupies C)))
-          (newcomer-paired (coming-movable C) (tenantOf c) T (came .table) (C .out) (C .beside) (coming-others C) (coming-one-more C) (coming-newcomer C));
+          (newcomer-paired (coming-movable C) (tenantOf c) T (came .table) (C .out) (C .beside) (coming-others C) (coming-one-more C)
+          (coming-newcomer C));
     }
 
   after-grant : (l : ℕ) → Granted h T c l → AfterGrant h T (tenantOf c) l (step h T c)

@@ -3,7 +3,7 @@ use mathlib.Core.Path.{_≡_, refl, sym, ap, _∙_}
 use mathlib.Core.Bool.{Bool, true, false, cond}
 use mathlib.Core.List.{List}
 use mathlib.Core.Logic.{_⊎_, inl, inr, _↔_}
-use mathlib.Core.Option.{Option, some, none}
+use mathlib.Core.Option.{some, none}
 use Prim.Native.Nat.{ℕ, suc, _+_, _^_, _≤_, _<_}
 use native.Mathlib.Omega.{arith}
 use native.Mathlib.Decide.{ℕ-discrete}
@@ -19,7 +19,7 @@ use Rattle.table.proofs.Order.{in-order-fits}
 use Rattle.calls.specs.Call.{Call, tenantOf}
 use Rattle.calls.specs.Step.{Outcome, refused, first, countsBut, grant-holdings, holdings, step}
 use Rattle.calls.specs.History.{Book, write, at-level, held}
-use Rattle.calls.specs.Demand.{Valid, Agrees, Asks, by-level, by-pages, Releases, releases, Grows, grows, Unchanged}
+use Rattle.calls.specs.Demand.{Valid, Asks, by-level, by-pages, Releases, releases, Grows, grows, Unchanged}
 use Rattle.calls.specs.Demand.{withOne, NoLegalSet, NoPlacement, NoExchange}
 use Rattle.calls.proofs.Checks.{answer-valid, valid-tenant, valid-size, asked-in-height, grown-in-height}
 use Rattle.calls.proofs.Room.{pages-one-more, count-one-more}

@@ -12,7 +12,7 @@ use Rattle.layout.specs.Set.{layoutSet}
 use Rattle.layout.specs.Change.{oneMore}
 use Rattle.table.specs.Table.{nodeAt, countsOf}
 use Rattle.calls.specs.Call.{Call, grant-level, grant-pages, release, grow, tenantOf, levelFor}
-use Rattle.calls.specs.Step.{refused, Check, check, first, validity, countsBut, grant-holdings, grow-holdings, holdings, checks}
+use Rattle.calls.specs.Step.{refused, Check, check, first, validity, countsBut, grant-holdings, holdings, checks}
 use Rattle.calls.specs.Step.{granted, released, accepted, unless, step}
 use Rattle.calls.specs.Demand.{Asks, by-level, by-pages, Releases, releases, Grows, grows}
 use Rattle.calls.proofs.Checks.{Sound, first-of-sound, Numbered, validity-numbered, not-applied, rest-zero, valid-tenant, valid-size}

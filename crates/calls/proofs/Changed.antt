@@ -1,5 +1,6 @@
 -- The planner may be asked in every call that is accepted, and what it plans is what the value-level call says.
 use mathlib.Core.Path.{_≡_, refl, sym, ap, _∙_, subst}
+use mathlib.Core.Bool.{true}
 use mathlib.Core.List.{List}
 use Prim.Native.Nat.{ℕ, _+_, _-_, _^_, _≤_, _<_}
 use native.Mathlib.Nat.{le-trans}
@@ -14,7 +15,7 @@ use Rattle.layout.specs.Layout.{pages}
 use Rattle.layout.specs.Set.{layoutSet}
 use Rattle.layout.specs.Change.{oneMore, oneFewer}
 use Rattle.layout.specs.Rows.{no-level, rowsOf}
-use Rattle.table.specs.Table.{nodeAt, occupied, countsOf, tenantsAt, InOrder}
+use Rattle.table.specs.Table.{nodeAt, occupied, countsOf, tenantsAt, in-order?, InOrder}
 use Rattle.table.specs.Owners.{ownersOf}
 use Rattle.table.specs.Pairing.{newcomer, moved, movesOf, written}
 use Rattle.table.specs.Plan.{no-move, movesIn, planOf, Plannable, AllPlanned}
@@ -22,7 +23,7 @@ use Rattle.table.specs.declared.Move.{Move}
 use Rattle.table.specs.declared.plan.Plan.{Plan}
 use Rattle.table.specs.declared.plan.Planned.{Planned}
 use Rattle.table.proofs.Used.{tally-le-length}
-use Rattle.table.proofs.Order.{counts-at, in-order-fits}
+use Rattle.table.proofs.Order.{counts-at, in-order-fits, in-order-iff}
 use Rattle.table.proofs.Moved.{Movable, moved-nothing, moved-in-new}
 use Rattle.table.proofs.Moves.{Moves, moves-in-list}
 use Rattle.table.proofs.Written.{written-is-moved}
@@ -32,7 +33,7 @@ use Rattle.carrying.specs.Order.{inOrder, Orderable}
 use Rattle.calls.specs.Step.{countsBut, granted, released}
 use Rattle.calls.specs.Value.{Gives, TenantsIn}
 use Rattle.calls.specs.declared.Answer.the-variants.{Done}
-use Rattle.calls.specs.Changes.{others, Target, given-up, placed, Resettled}
+use Rattle.calls.specs.Changes.{Ready, others, Target, given-up, placed, Resettled}
 use Rattle.calls.proofs.Given.{above-zero}
 use Rattle.calls.proofs.Kept.{Kept, level-in-counts}
 use Rattle.calls.proofs.Struck.{node-after-set}
@@ -93,9 +94,12 @@ plan-orderable {h} {cs} {ds} {gone} {T} {owners} p x r planned =
           (p .movable .within _ (moved-in-new (p .movable) _ (subst (λ (n : ℕ). 0 < n) (at i i<n .from-is) (at i i<n .from-above-zero))));
     }
 
-module _ (h : ℕ) (T : List ℕ) (h≤12 : h ≤ 12) (entries : length T ≡ 4096) (order : InOrder h T) (t : ℕ) (t<4096 : t < 4096) where
+module _ (h : ℕ) (T : List ℕ) (t : ℕ) (ready : Ready h T t) (seen : in-order? h T ≡ true) where
+  order : InOrder h T
+  order = in-order-iff h T (ready .height) .0 seen
+
   kept : Kept h T (bookOf h T)
-  kept = kept-of-order h T h≤12 entries order
+  kept = kept-of-order h T (ready .height) (ready .entries) order
 
   abbrev struck : List ℕ
   struck = set T t 0
@@ -106,10 +110,10 @@ module _ (h : ℕ) (T : List ℕ) (h≤12 : h ≤ 12) (entries : length T ≡ 40
     where
       go : Dec (nodeAt T t ≡ 0) → Coming h T t l struck (others h T t)
       go (yes z) =
-          rw (others-are-all h T t z, nothing-to-strike h T t z) (grant-coming kept t l t<4096 z low (rw (← others-are-all h T t z) fits))
+          rw (others-are-all h T t z, nothing-to-strike h T t z) (grant-coming kept t l (ready .tenant) z low (rw (← others-are-all h T t z) fits))
       go (no nz) =
           let same = others-of-holder h T t nz in
-          rw same (growth-coming h T (bookOf h T) kept t t<4096 (above-zero (nodeAt T t) nz) l low (rw (← same) fits))
+          rw same (growth-coming h T (bookOf h T) kept t (ready .tenant) (above-zero (nodeAt T t) nz) l low (rw (← same) fits))
 
   -- few of the others have to move for it
   coming-few : (l : ℕ) → l ≤ h → Movable h (layoutSet h (oneMore (others h T t) l)) struck
@@ -121,14 +125,14 @@ module _ (h : ℕ) (T : List ℕ) (h≤12 : h ≤ 12) (entries : length T ≡ 40
 
       go : Dec (nodeAt T t ≡ 0) → Movable h (layoutSet h (oneMore (others h T t) l)) struck
           → length (movesOf h (layoutSet h (oneMore (others h T t) l)) struck) ≤ 7
-      go (yes z) = rw (others-are-all h T t z, nothing-to-strike h T t z) (λ M. omega (arith, grant-moves-few h T l h≤12 order in-counts M))
+      go (yes z) = rw (others-are-all h T t z, nothing-to-strike h T t z) (λ M. omega (arith, grant-moves-few h T l (ready .height) order in-counts M))
       go (no nz) =
           let holds = above-zero (nodeAt T t) nz in
           let x = level h (nodeAt T t) in
           let fewer = countsBut h T t in
           rw (others-of-holder h T t nz)
-          (growth-moves-few h T t x fewer h≤12 order (level-in-fewer h T (bookOf h T) kept t t<4096 holds)
-          (counts-before h T (bookOf h T) kept t t<4096 holds) l (rw (length-set (countsOf h T) x _) in-counts))
+          (growth-moves-few h T t x fewer (ready .height) order (level-in-fewer h T (bookOf h T) kept t (ready .tenant) holds)
+          (counts-before h T (bookOf h T) kept t (ready .tenant) holds) l (rw (length-set (countsOf h T) x _) in-counts))
 
   -- what is planned for: the others can move, few of them have to, and the counts fit
   record Planable (ds : List ℕ) : Type 0 where
@@ -139,11 +143,11 @@ module _ (h : ℕ) (T : List ℕ) (h≤12 : h ≤ 12) (entries : length T ≡ 40
   planable : (ds : List ℕ) (x : ℕ) → Target h T t ds x → Planable ds
   planable ds x (given-up holds) =
       let B = bookOf h T in
-      let M = release-movable h T B kept t t<4096 holds in
-      let level-in = level-in-fewer h T B kept t t<4096 holds in
-      let few = release-moves-few h T t (level h (nodeAt T t)) (countsBut h T t) h≤12 order level-in (counts-before h T B kept t t<4096 holds) M in
+      let M = release-movable h T B kept t (ready .tenant) holds in
+      let level-in = level-in-fewer h T B kept t (ready .tenant) holds in
+      let few = release-moves-few h T t (level h (nodeAt T t)) (countsBut h T t) (ready .height) order level-in (counts-before h T B kept t (ready .tenant) holds) M in
       rw (others-of-holder h T t (λ z. omega (arith, holds, z)))
-      (record { movable = M; few = omega (arith, few); fits = fewer-counts-fit h T B kept t t<4096 holds })
+      (record { movable = M; few = omega (arith, few); fits = fewer-counts-fit h T B kept t (ready .tenant) holds })
   planable ds x (placed l low room) =
       let C = coming l low room in
       record { movable = coming-movable C; few = coming-few l low (coming-movable C); fits = new-counts-fit C }
@@ -152,13 +156,13 @@ module _ (h : ℕ) (T : List ℕ) (h≤12 : h ≤ 12) (entries : length T ≡ 40
     asked : Replan h (countsOf h T) ds (nodeAt T t) struck (ownersOf 8192 T)
     asked =
         let p = planable ds x goal in
-        replan h T h≤12 order t ds (rw entries t<4096) (p .fits) (p .movable) (p .few)
+        replan h T (ready .height) order t ds (rw (ready .entries) (ready .tenant)) (p .fits) (p .movable) (p .few)
 
     pub old-counts-fit : pages (countsOf h T) ≤ 4096
-    old-counts-fit = pages-below h (pages (countsOf h T)) h≤12 (asked .old-fits)
+    old-counts-fit = pages-below h (pages (countsOf h T)) (ready .height) (asked .old-fits)
 
     pub target-fits : pages ds ≤ 4096
-    target-fits = pages-below h (pages ds) h≤12 (asked .new-fits)
+    target-fits = pages-below h (pages ds) (ready .height) (asked .new-fits)
 
     pub target-plannable : Plannable h (rowsOf (countsOf h T)) (rowsOf ds) (nodeAt T t) (ownersOf 8192 T)
     target-plannable = plannable asked
@@ -199,7 +203,7 @@ module _ (h : ℕ) (T : List ℕ) (h≤12 : h ≤ 12) (entries : length T ≡ 40
       let M = planable (others h T t) no-level (given-up holds) .movable in
       let N = layoutSet h (others h T t) in
       let none : r .node ≡ 0 = done .node ∙ rw (lt-leb no-level h (omega arith)) in
-      let out : nodeAt (moved h N struck) t ≡ 0 = moved-nothing M t (node-after-set T t 0 (rw entries t<4096)) in
+      let out : nodeAt (moved h N struck) t ≡ 0 = moved-nothing M t (node-after-set T t 0 (rw (ready .entries) (ready .tenant))) in
       let same = others-of-holder h T t (λ z. omega (arith, holds, z)) in
       record {
         answer = refl;
@@ -225,5 +229,5 @@ module _ (h : ℕ) (T : List ℕ) (h≤12 : h ≤ 12) (entries : length T ≡ 40
   others-fit = go (ℕ-discrete (nodeAt T t) 0)
     where
       go : Dec (nodeAt T t ≡ 0) → pages (others h T t) ≤ 4096
-      go (yes z) = rw (others-are-all h T t z) (pages-below h (pages (countsOf h T)) h≤12 (in-order-fits h T h≤12 order))
+      go (yes z) = rw (others-are-all h T t z) (pages-below h (pages (countsOf h T)) (ready .height) (in-order-fits h T (ready .height) order))
       go (no nz) = target-fits (others h T t) no-level (given-up (above-zero (nodeAt T t) nz))

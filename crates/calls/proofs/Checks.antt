@@ -9,7 +9,7 @@ use lib.Dec.{eqb, ltb, leb}
 use lib.ListN.{length}
 use Rattle.table.specs.Table.{in-order?}
 use Rattle.calls.specs.Call.{Call, grant-level, grant-pages, release, grow, tenantOf, entriesOf, leastEntries}
-use Rattle.calls.specs.Step.{Check, check, first, length-checks, list-checks, pages-check, size-checks, validity, holdings, checks}
+use Rattle.calls.specs.Step.{Check, check, first, length-checks, list-checks, size-checks, validity, holdings, checks}
 use Rattle.calls.specs.Step.{unless, accepted, step}
 use Rattle.calls.specs.Demand.{Asks, by-level, by-pages, Grows, grows}
 use Rattle.calls.specs.Value.{callOf}

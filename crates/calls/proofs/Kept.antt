@@ -1,5 +1,5 @@
 -- What every history keeps up: the table is in order, and the book agrees with it tenant by tenant. And what follows for one box from that.
-use mathlib.Core.Path.{_≡_, sym, ap, _∙_}
+use mathlib.Core.Path.{_≡_, sym, _∙_}
 use mathlib.Core.Bool.{_&&_}
 use mathlib.Core.List.{List}
 use mathlib.Core.Option.{Option, some, none}

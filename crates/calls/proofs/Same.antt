@@ -1,12 +1,11 @@
 -- A growth to the level that the tenant has changes nothing.
 use mathlib.Core.Path.{_≡_, refl, sym, ap, _∙_}
-use mathlib.Core.Bool.{Bool, true, false, not, _&&_, and-true}
+use mathlib.Core.Bool.{not, _&&_, and-true}
 use mathlib.Core.List.{List, [], _∷_, map}
 use Prim.Native.Nat.{ℕ, suc, _^_, _<_}
 use native.Mathlib.Omega.{arith}
 use native.Mathlib.Decide.{ℕ-discrete}
 use borrow.Author.Tests.{ne-eqb}
-use lib.Dec.{eqb}
 use lib.ListN.{length, set, length-map}
 use lib.Seq.{set-set, set-getD}
 use Rattle.tree.specs.Node.{level}
@@ -15,8 +14,8 @@ use Rattle.tree.proofs.Count.{passes-first, fails-second}
 use Rattle.tree.proofs.Sum.{count-of-none}
 use Rattle.layout.specs.Set.{layoutSet}
 use Rattle.layout.specs.Change.{oneMore}
-use Rattle.table.specs.Table.{nodeAt, occupied, countsOf}
-use Rattle.table.specs.Pairing.{Shift, shifts, newcomer, moved, movesOf}
+use Rattle.table.specs.Table.{nodeAt, occupied}
+use Rattle.table.specs.Pairing.{shifts, newcomer, moved, movesOf}
 use Rattle.table.proofs.Order.{in-order-is-layout}
 use Rattle.table.proofs.PlanLaws.{struck-occupied}
 use Rattle.table.proofs.Moved.{room-of}

@@ -68,6 +68,8 @@ pub a-growth-moves-7 : missing (layout before-growth) (among (layout after-growt
 unfolding layout missing
 a-growth-moves-7 = refl
 
-pub its-place-stays : (node 9 (block 1 1) ≡ 257) × (among (layout before-growth) (block 1 1) ≡ true) × (among (layout after-growth) (block 1 1) ≡ true)
+pub its-place-stays : (node 9 (block 1 1) ≡ 257)
+    × (among (layout before-growth) (block 1 1) ≡ true)
+    × (among (layout after-growth) (block 1 1) ≡ true)
 unfolding layout
 its-place-stays = (refl, refl, refl)

@@ -9,12 +9,8 @@ use mathlib.Core.Path.{_≡_, sym, ap, subst, _∙_}
 use mathlib.Core.List.{List}
 use Prim.Native.Nat.{ℕ}
 use Rattle.layout.specs.Rows.{no-level}
-use Rattle.table.specs.Table.{nodeAt, InOrder}
-use Rattle.table.proofs.Order.{in-order-iff}
+use Rattle.table.specs.Table.{nodeAt}
 use Rattle.calls.specs.Changes.{without, others, Target, given-up, Resettled}
-
-order : (start : tie.Start) → InOrder (start .args .height) (start .args .table .now)
-order start = in-order-iff (start .args .height) (start .args .table .now) (start .pre .0 .height) .0 (start .pre .1 .in-order)
 
 abbrev started : tie.After-without → tie.Start
 started x = x .before .before .before .before
@@ -50,8 +46,8 @@ resettle-requires c κs =
     let x = c .before in
     let start = started x in
     let a = start .args in
-    let goal = given-up (above-zero _ (x .before .if1 .left)) in
-    (start .pre .0, (start .pre .1, subst (λ (cs : List ℕ). Target (a .height) (a .table .now) (a .tenant) cs no-level) (sym (others-counted x)) goal))
+    let goal : List ℕ → Type 0 = λ cs. Target (a .height) (a .table .now) (a .tenant) cs no-level in
+    (start .pre .0, (start .pre .1, subst goal (sym (others-counted x)) (given-up (above-zero _ (x .before .if1 .left)))))
 
 same-length : tie.Need-same-length
 same-length c = search needs
@@ -61,12 +57,13 @@ returns-2 c =
     let x = c .before .before .before .before .before in
     let start = started x in
     let a = start .args in
-    let ready = start .pre .0 in
-    let r = c .before .before .before .resettle .result in
-    let T′ = c .before .before .before .resettle .last .1 .0 in
-    let done =
-    subst (λ (cs : List ℕ). Resettled (a .height) (a .table .now) (a .tenant) cs no-level r T′) (others-counted x) (c .before .before .before .resettle .ensures) in
-    gives-same (release-gives (a .height) (a .table .now) (ready .height) (ready .entries) (order start) (a .tenant) (ready .tenant) (above-zero _ (x .before .if1 .left)) r T′ done)
+    let settled = c .before .before .before .resettle in
+    let r = settled .result in
+    let T′ = settled .last .1 .0 in
+    let goal : List ℕ → Type 0 = λ cs. Resettled (a .height) (a .table .now) (a .tenant) cs no-level r T′ in
+    let done = subst goal (others-counted x) (settled .ensures) in
+    let holds = above-zero _ (x .before .if1 .left) in
+    gives-same (release-gives (a .height) (a .table .now) (a .tenant) (start .pre .0) (start .pre .1 .in-order) holds r T′ done)
     (release-by-holder (a .height) (a .table .now) (a .tenant) (x .before .if1 .left))
 
 pub give-up-spec : {M : Type 1} → statement M

@@ -11,15 +11,11 @@ use Rattle.layout.specs.Layout.{pages}
 use Rattle.layout.specs.Change.{oneMore}
 use Rattle.layout.specs.Counts.{more}
 use Rattle.layout.proofs.Counting.{more-below}
-use Rattle.table.specs.Table.{nodeAt, InOrder}
-use Rattle.table.proofs.Order.{in-order-iff}
+use Rattle.table.specs.Table.{nodeAt}
 use Rattle.calls.specs.Changes.{without, others, Target, placed, Resettled}
 use Rattle.calls.proofs.Changing.{place-without-room, place-with-room}
 use Rattle.calls.proofs.Changed.{others-fit, others-below, place-gives}
 use Rattle.calls.proofs.Given.{gives-same}
-
-order : (start : tie.Start) → InOrder (start .args .height) (start .args .table .now)
-order start = in-order-iff (start .args .height) (start .args .table .now) (start .pre .0 .height) .0 (start .pre .1 .1 .in-order)
 
 abbrev started : tie.After-without → tie.Start
 started x = x .before .before .before
@@ -35,8 +31,8 @@ others-counted x =
 room : (c : tie.After-one-more) → let a = started (c .before .before .before .before) .args in
     pages (others (a .height) (a .table .now) (a .tenant)) + 2 ^ a .level ≤ 2 ^ a .height
 room c =
-    leb-true _ _
-    (rw (others-counted (c .before .before .before .before)) at (sym (c .before .before .before .has-room .ensures) ∙ not-false _ (c .before .before .if1 .left)))
+    let tested = sym (c .before .before .before .has-room .ensures) ∙ not-false _ (c .before .before .if1 .left) in
+    leb-true _ _ (rw (others-counted (c .before .before .before .before)) at tested)
 
 -- the counts afterwards are those of the others and one more
 new-counts : (c : tie.After-one-more) → let a = started (c .before .before .before .before) .args in
@@ -44,11 +40,10 @@ new-counts : (c : tie.After-one-more) → let a = started (c .before .before .be
 new-counts c =
     let start = started (c .before .before .before .before) in
     let a = start .args in
-    let ready = start .pre .0 in
     c .one-more .ensures
     ∙ ap (λ (cs : List ℕ). more cs (a .level)) (others-counted (c .before .before .before .before))
     ∙ more-below (others (a .height) (a .table .now) (a .tenant)) (a .level)
-    (others-below (a .height) (a .table .now) (ready .height) (ready .entries) (order start) (a .tenant) (ready .tenant) (a .level) (start .pre .1 .0))
+    (others-below (a .height) (a .table .now) (a .tenant) (start .pre .0) (start .pre .1 .1 .in-order) (a .level) (start .pre .1 .0))
 
 mul-without : tie.Need-mul-without
 mul-without c = search needs
@@ -63,8 +58,8 @@ has-room-requires : tie.Need-has-room-requires
 has-room-requires c κs =
     let start = started c in
     let a = start .args in
-    let ready = start .pre .0 in
-    (ready .height, omega (arith, start .pre .1 .0, ready .height), rw (others-counted c) (others-fit (a .height) (a .table .now) (ready .height) (ready .entries) (order start) (a .tenant) (ready .tenant)))
+    let fit = others-fit (a .height) (a .table .now) (a .tenant) (start .pre .0) (start .pre .1 .1 .in-order) in
+    (start .pre .0 .height, omega (arith, start .pre .1 .0, start .pre .0 .height), rw (others-counted c) fit)
 
 refused-requires : tie.Need-refused-requires
 refused-requires c κs = search needs
@@ -84,8 +79,8 @@ resettle-requires : tie.Need-resettle-requires
 resettle-requires c κs =
     let start = started (c .before .before .before .before) in
     let a = start .args in
-    let goal = placed (a .level) (start .pre .1 .0) (room c) in
-    (start .pre .0, (start .pre .1 .1, subst (λ (cs : List ℕ). Target (a .height) (a .table .now) (a .tenant) cs (a .level)) (sym (new-counts c)) goal))
+    let goal : List ℕ → Type 0 = λ cs. Target (a .height) (a .table .now) (a .tenant) cs (a .level) in
+    (start .pre .0, (start .pre .1 .1, subst goal (sym (new-counts c)) (placed (a .level) (start .pre .1 .0) (room c))))
 
 same-length : tie.Need-same-length
 same-length c = search needs
@@ -95,12 +90,12 @@ returns-2 c =
     let y = c .before .before .before .before in
     let start = started (y .before .before .before .before) in
     let a = start .args in
-    let ready = start .pre .0 in
-    let r = c .before .before .before .resettle .result in
-    let T′ = c .before .before .before .resettle .last .1 .0 in
-    let done =
-    subst (λ (cs : List ℕ). Resettled (a .height) (a .table .now) (a .tenant) cs (a .level) r T′) (new-counts y) (c .before .before .before .resettle .ensures) in
-    gives-same (place-gives (a .height) (a .table .now) (ready .height) (ready .entries) (order start) (a .tenant) (ready .tenant) (a .level) (start .pre .1 .0) r T′ done)
+    let settled = c .before .before .before .resettle in
+    let r = settled .result in
+    let T′ = settled .last .1 .0 in
+    let goal : List ℕ → Type 0 = λ cs. Resettled (a .height) (a .table .now) (a .tenant) cs (a .level) r T′ in
+    let done = subst goal (new-counts y) (settled .ensures) in
+    gives-same (place-gives (a .height) (a .table .now) (a .tenant) (start .pre .0) (start .pre .1 .1 .in-order) (a .level) (start .pre .1 .0) r T′ done)
     (place-with-room (a .height) (a .table .now) (a .tenant) (a .level) (room y))
 
 pub place-spec : {M : Type 1} → statement M

@@ -4,21 +4,17 @@ use mathlib.Core.List.{List}
 use Prim.Native.Nat.{ℕ}
 use lib.ListN.{length, set, length-set}
 use Rattle.layout.specs.Rows.{rowsOf}
-use Rattle.table.specs.Table.{nodeAt, countsOf, InOrder}
+use Rattle.table.specs.Table.{nodeAt, countsOf}
 use Rattle.table.specs.Owners.{ownersOf}
 use Rattle.table.specs.Pairing.{written}
 use Rattle.table.specs.Plan.{movesIn, Plannable, AllPlanned}
 use Rattle.table.specs.declared.plan.Planned.{Planned}
-use Rattle.table.proofs.Order.{in-order-iff}
 use Rattle.table.proofs.Written.{written-length}
 use Rattle.calls.proofs.Changing.{of-looked, of-table}
 use Rattle.calls.proofs.Changed.{old-counts-fit, target-fits, target-plannable, target-tenants, target-orderable, target-resettled}
 use borrow.Author.Needs.{needs}
 use Rattle.calls.proofs.change.resettle.Statement.{statement}
 use Rattle.calls.proofs.change.resettle.Tie as tie
-
-order : (start : tie.Start) → InOrder (start .args .height) (start .args .table .now)
-order start = in-order-iff (start .args .height) (start .args .table .now) (start .pre .0 .height) .0 (start .pre .1 .0 .in-order)
 
 -- what the planner asks and gives, of the counts and the owners of the table
 abbrev Asked : tie.Start → List ℕ → List ℕ → Type 0
@@ -62,27 +58,24 @@ layout-requires : tie.Need-layout-requires
 layout-requires c κs =
     let start = c .before .before in
     let a = start .args in
-    let ready = start .pre .0 in
     rw (start .pre .1 .0 .counts)
-    (old-counts-fit (a .height) (a .table .now) (ready .height) (ready .entries) (order start) (a .tenant) (ready .tenant) (a .new .at) (a .wanted)
+    (old-counts-fit (a .height) (a .table .now) (a .tenant) (start .pre .0) (start .pre .1 .0 .in-order) (a .new .at) (a .wanted)
     (start .pre .1 .1))
 
 layout-requires-2 : tie.Need-layout-requires-2
 layout-requires-2 c κs =
     let start = c .before .before .before in
     let a = start .args in
-    let ready = start .pre .0 in
-    target-fits (a .height) (a .table .now) (ready .height) (ready .entries) (order start) (a .tenant) (ready .tenant) (a .new .at) (a .wanted)
+    target-fits (a .height) (a .table .now) (a .tenant) (start .pre .0) (start .pre .1 .0 .in-order) (a .new .at) (a .wanted)
     (start .pre .1 .1)
 
 plan-moves-requires : tie.Need-plan-moves-requires
 plan-moves-requires c κs =
     let start = c .before .before .before .before in
     let a = start .args in
-    let ready = start .pre .0 in
     rw (c .before .layout .ensures, c .layout2 .ensures)
     (of-looked (Asked start) (start .pre .1 .0)
-    (target-plannable (a .height) (a .table .now) (ready .height) (ready .entries) (order start) (a .tenant) (ready .tenant) (a .new .at) (a .wanted)
+    (target-plannable (a .height) (a .table .now) (a .tenant) (start .pre .0) (start .pre .1 .0 .in-order) (a .new .at) (a .wanted)
     (start .pre .1 .1)))
 
 mul-table : tie.Need-mul-table
@@ -96,8 +89,7 @@ carry-out-requires c κs =
     let y = c .before .before in
     let start = started y in
     let a = start .args in
-    let ready = start .pre .0 in
-    target-tenants (a .height) (a .table .now) (ready .height) (ready .entries) (order start) (a .tenant) (ready .tenant) (a .new .at) (a .wanted)
+    target-tenants (a .height) (a .table .now) (a .tenant) (start .pre .0) (start .pre .1 .0 .in-order) (a .new .at) (a .wanted)
     (start .pre .1 .1) (y .plan-moves .result) (planned y)
 
 mul-table-2 : tie.Need-mul-table-2
@@ -114,8 +106,7 @@ in-order-requires c κs =
     let y = c .before .before .before .before .before in
     let start = started y in
     let a = start .args in
-    let ready = start .pre .0 in
-    target-orderable (a .height) (a .table .now) (ready .height) (ready .entries) (order start) (a .tenant) (ready .tenant) (a .new .at) (a .wanted)
+    target-orderable (a .height) (a .table .now) (a .tenant) (start .pre .0) (start .pre .1 .0 .in-order) (a .new .at) (a .wanted)
     (start .pre .1 .1) (y .plan-moves .result) (planned y)
 
 same-length : tie.Need-same-length
@@ -129,8 +120,7 @@ returns c =
     let y = c .before .before .before .before .before .before in
     let start = started y in
     let a = start .args in
-    let ready = start .pre .0 in
-    target-resettled (a .height) (a .table .now) (ready .height) (ready .entries) (order start) (a .tenant) (ready .tenant) (a .new .at) (a .wanted)
+    target-resettled (a .height) (a .table .now) (a .tenant) (start .pre .0) (start .pre .1 .0 .in-order) (a .new .at) (a .wanted)
     (start .pre .1 .1) (y .plan-moves .result) (planned y) (c .in-order .result) (c .before .before .before .carry-out .ensures) (c .in-order .ensures)
 
 pub resettle-spec : {M : Type 1} → statement M
