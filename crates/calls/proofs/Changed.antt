@@ -125,7 +125,9 @@ module _ (h : ℕ) (T : List ℕ) (t : ℕ) (ready : Ready h T t) (seen : in-ord
 
       go : Dec (nodeAt T t ≡ 0) → Movable h (layoutSet h (oneMore (others h T t) l)) struck
           → length (movesOf h (layoutSet h (oneMore (others h T t) l)) struck) ≤ 7
-      go (yes z) = rw (others-are-all h T t z, nothing-to-strike h T t z) (λ M. omega (arith, grant-moves-few h T l (ready .height) order in-counts M))
+      go (yes z) =
+          rw (others-are-all h T t z, nothing-to-strike h T t z)
+          (λ M. omega (arith, grant-moves-few h T l (ready .height) order in-counts M))
       go (no nz) =
           let holds = above-zero (nodeAt T t) nz in
           let x = level h (nodeAt T t) in
@@ -135,27 +137,28 @@ module _ (h : ℕ) (T : List ℕ) (t : ℕ) (ready : Ready h T t) (seen : in-ord
           (counts-before h T (bookOf h T) kept t (ready .tenant) holds) l (rw (length-set (countsOf h T) x _) in-counts))
 
   -- what is planned for: the others can move, few of them have to, and the counts fit
-  record Planable (ds : List ℕ) : Type 0 where
+  record CanSettle (ds : List ℕ) : Type 0 where
     movable : Movable h (layoutSet h ds) struck
     few : length (movesOf h (layoutSet h ds) struck) ≤ 7
     fits : pages ds ≤ 2 ^ h
 
-  planable : (ds : List ℕ) (x : ℕ) → Target h T t ds x → Planable ds
-  planable ds x (given-up holds) =
+  can-settle : (ds : List ℕ) (x : ℕ) → Target h T t ds x → CanSettle ds
+  can-settle ds x (given-up holds) =
       let B = bookOf h T in
       let M = release-movable h T B kept t (ready .tenant) holds in
       let level-in = level-in-fewer h T B kept t (ready .tenant) holds in
-      let few = release-moves-few h T t (level h (nodeAt T t)) (countsBut h T t) (ready .height) order level-in (counts-before h T B kept t (ready .tenant) holds) M in
+      let before = counts-before h T B kept t (ready .tenant) holds in
+      let few = release-moves-few h T t (level h (nodeAt T t)) (countsBut h T t) (ready .height) order level-in before M in
       rw (others-of-holder h T t (λ z. omega (arith, holds, z)))
       (record { movable = M; few = omega (arith, few); fits = fewer-counts-fit h T B kept t (ready .tenant) holds })
-  planable ds x (placed l low room) =
+  can-settle ds x (placed l low room) =
       let C = coming l low room in
       record { movable = coming-movable C; few = coming-few l low (coming-movable C); fits = new-counts-fit C }
 
   module _ (ds : List ℕ) (x : ℕ) (goal : Target h T t ds x) where
     asked : Replan h (countsOf h T) ds (nodeAt T t) struck (ownersOf 8192 T)
     asked =
-        let p = planable ds x goal in
+        let p = can-settle ds x goal in
         replan h T (ready .height) order t ds (rw (ready .entries) (ready .tenant)) (p .fits) (p .movable) (p .few)
 
     pub old-counts-fit : pages (countsOf h T) ≤ 4096
@@ -200,7 +203,7 @@ module _ (h : ℕ) (T : List ℕ) (t : ℕ) (ready : Ready h T t) (seen : in-ord
   pub release-gives : 0 < nodeAt T t → (r : Planned) (T′ : List ℕ) → Resettled h T t (others h T t) no-level r T′
       → Gives (released h T (layoutSet h (countsBut h T t)) t) (record { answer = Done (nodeAt T t); plan = r .plan }) T′
   release-gives holds r T′ done =
-      let M = planable (others h T t) no-level (given-up holds) .movable in
+      let M = can-settle (others h T t) no-level (given-up holds) .movable in
       let N = layoutSet h (others h T t) in
       let none : r .node ≡ 0 = done .node ∙ rw (lt-leb no-level h (omega arith)) in
       let out : nodeAt (moved h N struck) t ≡ 0 = moved-nothing M t (node-after-set T t 0 (rw (ready .entries) (ready .tenant))) in

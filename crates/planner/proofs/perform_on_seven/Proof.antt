@@ -200,7 +200,8 @@ module _ {M : Type 1} (𝓤 : URA M) (H : Heap 𝓤) (A : Atoms 𝓤) (W : Given
             -- [the lifetime has ended; a token; true; the last list; the last table; the lender's part; _12; …]
             move ! (0 ∷ 5 ∷ 3 ∷ []) $
             use3 W (later (‵ (Arr (mem Mv.the-row) 7 .lies M′ l₅ 0))) (slice-back 𝓤 H A W Mv.the-row (α ∷ []) γ M′ 7 l₅ 0) $ await ! tt $
-            use1 W (given (Is Seven M′ (valueOf M′ ∷ [])) (‵ (fat fullShare array l₅ 0 (valueOf M′)))) (taken-back 𝓤 H A W l₅ M′) $ learn ! (λ is-list.
+            use1 W (given (Is Seven M′ (valueOf M′ ∷ [])) (‵ (fat fullShare array l₅ 0 (valueOf M′)))) (taken-back 𝓤 H A W l₅ M′) $
+            learn ! (λ is-list.
             -- [_5; the token; true; the last table; _12; …; _6; …; that _5 dies; _4; …; _0; …]
             assigns ! (of-opd ! (val ! 0 refl)) (from ! (stop !))
             (init ! 6 refl (array-typed Mv.the-row (LL.lawful Mv.the-type Mv′.the-laws 𝓤 H A W .typed) 7 M′ _ is-list .0)) $

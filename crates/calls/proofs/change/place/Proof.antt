@@ -95,7 +95,8 @@ returns-2 c =
     let T′ = settled .last .1 .0 in
     let goal : List ℕ → Type 0 = λ cs. Resettled (a .height) (a .table .now) (a .tenant) cs (a .level) r T′ in
     let done = subst goal (new-counts y) (settled .ensures) in
-    gives-same (place-gives (a .height) (a .table .now) (a .tenant) (start .pre .0) (start .pre .1 .1 .in-order) (a .level) (start .pre .1 .0) r T′ done)
+    gives-same
+    (place-gives (a .height) (a .table .now) (a .tenant) (start .pre .0) (start .pre .1 .1 .in-order) (a .level) (start .pre .1 .0) r T′ done)
     (place-with-room (a .height) (a .table .now) (a .tenant) (a .level) (room y))
 
 pub place-spec : {M : Type 1} → statement M

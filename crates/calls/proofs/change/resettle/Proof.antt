@@ -118,10 +118,11 @@ same-length c =
 returns : tie.Need-returns
 returns c =
     let y = c .before .before .before .before .before .before in
+    let done = c .before .before .before .carry-out .ensures in
     let start = started y in
     let a = start .args in
     target-resettled (a .height) (a .table .now) (a .tenant) (start .pre .0) (start .pre .1 .0 .in-order) (a .new .at) (a .wanted)
-    (start .pre .1 .1) (y .plan-moves .result) (planned y) (c .in-order .result) (c .before .before .before .carry-out .ensures) (c .in-order .ensures)
+    (start .pre .1 .1) (y .plan-moves .result) (planned y) (c .in-order .result) done (c .in-order .ensures)
 
 pub resettle-spec : {M : Type 1} → statement M
 resettle-spec =
