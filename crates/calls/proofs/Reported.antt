@@ -1,5 +1,5 @@
 -- A call reports as many moves as tenants other than its own have a node before and a different one after: at most three on a grant, four on
--- a release.
+-- a release, seven on a growth.
 use mathlib.Core.Path.{_≡_, refl, sym, ap, _∙_}
 use mathlib.Core.Bool.{Bool, true, false, not, _&&_, false≢true}
 use mathlib.Core.List.{List}

@@ -6,7 +6,7 @@ pub const HEIGHT: u16 = 1;
 // The table does not have 4,096 entries.
 pub const TABLE_LENGTH: u16 = 2;
 
-// Fewer than four move entries are lent.
+// Fewer move entries are lent than the call takes.
 pub const MOVES: u16 = 3;
 
 // The tenant is above 4,095.
@@ -24,10 +24,10 @@ pub const NOT_IN_ORDER: u16 = 7;
 // A grant to a tenant that holds a block.
 pub const HOLDS: u16 = 8;
 
-// A release by a tenant that holds none.
+// A release or a growth by a tenant that holds none.
 pub const HOLDS_NONE: u16 = 9;
 
-// The pages held and the new block are more than the reserve has.
+// The pages held and the new block are more than the reserve has; of a growth, those of the others and its new block.
 pub const NO_ROOM: u16 = 10;
 
 // The journal is empty, or its first record is no open.

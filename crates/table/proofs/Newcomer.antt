@@ -1,5 +1,5 @@
--- The table after a grant: where the new set has one node more, on level x, the newcomer's node is the one that nobody has moved to, and with
--- the newcomer on it the occupied nodes are the new set.
+-- The table after a newcomer has come: where the new set has one node more, on level x, the newcomer's node is the one that nobody has moved to,
+-- and with the newcomer on it the occupied nodes are the new set.
 use mathlib.Core.Path.{_≡_, refl, sym, ap, _∙_}
 use mathlib.Core.Bool.{true}
 use mathlib.Core.List.{List}
