@@ -11,7 +11,8 @@ use Rattle.layout.specs.Layout.{pages}
 use Rattle.layout.specs.Set.{layoutSet}
 use Rattle.layout.specs.Change.{oneMore}
 use Rattle.table.specs.Table.{nodeAt, countsOf}
-use Rattle.calls.specs.Call.{Call, grant-level, grant-pages, release, grow, tenantOf, levelFor}
+use Rattle.sizes.specs.Level.{levelFor}
+use Rattle.calls.specs.Call.{Call, grant-level, grant-pages, release, grow, tenantOf}
 use Rattle.calls.specs.Step.{refused, Check, check, first, validity, countsBut, grant-holdings, holdings, checks}
 use Rattle.calls.specs.Step.{granted, released, accepted, unless, step}
 use Rattle.calls.specs.Demand.{Asks, by-level, by-pages, Releases, releases, Grows, grows}

@@ -11,7 +11,8 @@ use Rattle.layout.specs.Set.{layoutSet}
 use Rattle.layout.specs.Change.{oneMore}
 use Rattle.table.specs.Table.{nodeAt, countsOf, in-order?}
 use Rattle.table.specs.Owners.{ownersOf}
-use Rattle.calls.specs.Call.{Call, grant-level, grant-pages, release, grow, levelFor}
+use Rattle.sizes.specs.Level.{levelFor}
+use Rattle.calls.specs.Call.{Call, grant-level, grant-pages, release, grow}
 use Rattle.calls.specs.Step.{countsBut, refused, granted, released}
 use Rattle.calls.specs.Changes.{Looked, without, others, placeOn, grantOn, releaseOn, growOn, changeOn}
 

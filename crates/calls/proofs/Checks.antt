@@ -8,6 +8,7 @@ use borrow.Author.Tests.{ltb-false, leb-false, eqb-true, eq-eqb, le-ltb, not-fal
 use lib.Dec.{eqb, ltb, leb}
 use lib.ListN.{length}
 use Rattle.table.specs.Table.{in-order?}
+use Rattle.sizes.proofs.Level.{level-for-le}
 use Rattle.calls.specs.Call.{Call, grant-level, grant-pages, release, grow, tenantOf, entriesOf, leastEntries}
 use Rattle.calls.specs.Step.{Check, check, first, length-checks, list-checks, size-checks, validity, holdings, checks}
 use Rattle.calls.specs.Step.{unless, accepted, step}
@@ -15,7 +16,6 @@ use Rattle.calls.specs.Demand.{Asks, by-level, by-pages, Grows, grows}
 use Rattle.calls.specs.Value.{callOf}
 use Rattle.calls.specs.declared.Call.{Call as Arguments}
 use Rattle.calls.specs.declared.Call.the-variants.{GrantLevel, GrantPages, Release, Grow}
-use Rattle.calls.proofs.Level.{level-for-le}
 
 -- on a table in order of 4,096 entries, at a height up to 12, only 3 to 6 and 8 to 10 can apply
 pub record Sound (h : ℕ) (T : List ℕ) : Type 0 where

@@ -1,4 +1,3 @@
-pub mod Level
 pub mod Room
 pub mod Checks
 pub mod Kept

@@ -2,7 +2,8 @@
 use mathlib.Core.Path.{_≡_, refl, sym, _∙_}
 use Prim.Native.Nat.{ℕ, _≤_}
 use native.Mathlib.Omega.{arith}
-use Rattle.calls.specs.Call.{Call, grant-level, grant-pages, release, grow, levelFor, leastEntries}
+use Rattle.sizes.specs.Level.{levelFor}
+use Rattle.calls.specs.Call.{Call, grant-level, grant-pages, release, grow, leastEntries}
 use Rattle.calls.specs.Demand.{Asks, by-level, by-pages, Releases, releases, Grows, grows}
 
 -- 0 for a grant of either kind, 1 for a release, 2 for a growth

@@ -2,10 +2,9 @@
 use mathlib.Core.Path.{_≡_, refl, sym, _∙_}
 use mathlib.Core.Bool.{Bool, true, false, not}
 use mathlib.Core.List.{List, [], _∷_, _++_}
-use mathlib.Core.Logic.{_↔_}
-use Prim.Native.Nat.{ℕ, _+_, _^_, _≤_, _<_}
+use Prim.Native.Nat.{ℕ, _+_, _^_, _≤_}
 use native.Mathlib.Omega.{arith}
-use native.Mathlib.Decide.{decLt, ℕ-discrete}
+use native.Mathlib.Decide.{ℕ-discrete}
 use borrow.Author.Tests.{leb-true, le-leb}
 use lib.Dec.{eqb, ltb, leb}
 use lib.ListN.{length}
@@ -13,11 +12,12 @@ use lib.Pow.{pow-pos}
 use Rattle.tree.specs.Node.{level}
 use Rattle.layout.specs.Layout.{pages}
 use Rattle.table.specs.Table.{nodeAt, countsOf, in-order?}
-use Rattle.calls.specs.Call.{grant-pages, levelFor}
+use Rattle.sizes.specs.Level.{levelFor}
+use Rattle.sizes.proofs.Level.{level-of-pages}
+use Rattle.calls.specs.Call.{grant-pages}
 use Rattle.calls.specs.Step.{Check, check, first, pages-check, grant-holdings, step}
 use Rattle.calls.specs.Demand.{by-pages}
 use Rattle.calls.specs.Pages.{PagesPromise}
-use Rattle.calls.proofs.Level.{level-for-none, level-for-none-low, level-for-least, level-for-le, level-for-above}
 use Rattle.calls.proofs.Checks.{four, four-numbered, first-after-none, first-stands, answer-is-first}
 use Rattle.calls.proofs.Accepted.{demand-2}
 
@@ -27,14 +27,6 @@ not-6 true b c e = omega arith
 not-6 false true c e = omega arith
 not-6 false false true e = omega arith
 not-6 false false false e = omega arith
-
--- the pages that are refused take a level that the reserve lacks
-refused-iff-above : (h p : ℕ) → (2 ^ h ≤ p) ↔ (h < levelFor h p)
-refused-iff-above h p = (level-for-above h p, λ above. go above (decLt p (2 ^ h)))
-  where
-    go : h < levelFor h p → Dec (p < 2 ^ h) → 2 ^ h ≤ p
-    go above (yes q) = absurd (omega (arith, level-for-le h p q))
-    go above (no nq) = omega arith
 
 -- what is checked after 6
 later : ℕ → List ℕ → ℕ → ℕ → List Check
@@ -90,11 +82,11 @@ never-6 h T t p m z e = go (ℕ-discrete (first (four h (length T) 4 t m)) 0)
 
 pub grant-by-pages : PagesPromise
 grant-by-pages h T t p m = record {
-  guarded = λ q e. rw (on-level h T t p m e) (level-for-least h p q);
-  unnamed = λ z q e. on-level h T t p m e ∙ rw z (level-for-none h q);
-  unnamed-low = λ z q e. on-level h T t p m e ∙ rw z (level-for-none-low h q);
+  guarded = λ q e. rw (on-level h T t p m e) (level-of-pages h p .with-guard q);
+  unnamed = λ z q e. on-level h T t p m e ∙ level-of-pages h p .no-size z q;
+  unnamed-low = λ z q e. on-level h T t p m e ∙ level-of-pages h p .no-size-low z q;
   unnamed-goes-in = λ z. never-6 h T t p m z;
   refused = λ passed. (only-6 h T t p m passed, answered-6 h T t p m passed);
-  no-level = refused-iff-above h p;
+  no-level = level-of-pages h p .above-height;
   height-0 = λ passed z q. answered-6 h T t p m passed (rw z (omega arith));
 }

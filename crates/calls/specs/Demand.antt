@@ -10,7 +10,8 @@ use lib.ListN.{length}
 use Rattle.tree.specs.Node.{InTree, level}
 use Rattle.tree.specs.Held.{Nodes, Within, Legal, Safe, sizes, count, one-if}
 use Rattle.table.specs.Table.{nodeAt, occupied}
-use Rattle.calls.specs.Call.{Call, grant-level, grant-pages, release, grow, tenantOf, levelFor}
+use Rattle.sizes.specs.Level.{levelFor}
+use Rattle.calls.specs.Call.{Call, grant-level, grant-pages, release, grow, tenantOf}
 use Rattle.calls.specs.Step.{Outcome, first, validity, step}
 use Rattle.calls.specs.History.{History, tableAfter, Book, bookAfter, held, write}
 

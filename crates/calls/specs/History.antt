@@ -6,7 +6,8 @@ use mathlib.Core.Option.{Option, some, none}
 use Prim.Native.Nat.{ℕ, zero, suc}
 use lib.Dec.{eqb}
 use Rattle.tree.specs.Held.{count}
-use Rattle.calls.specs.Call.{Call, grant-level, grant-pages, release, grow, levelFor}
+use Rattle.sizes.specs.Level.{levelFor}
+use Rattle.calls.specs.Call.{Call, grant-level, grant-pages, release, grow}
 use Rattle.calls.specs.Step.{Outcome, step, open-reserve}
 
 -- a history at height h: an accepted opening of a lent table, then any list of calls, each on the table that the last one left

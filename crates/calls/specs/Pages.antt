@@ -5,13 +5,10 @@ use mathlib.Core.Logic.{_↔_}
 use Prim.Native.Nat.{ℕ, _+_, _^_, _≤_, _<_}
 use lib.ListN.{length}
 use Rattle.tree.specs.Node.{level}
-use Rattle.calls.specs.Call.{grant-pages, levelFor}
+use Rattle.sizes.specs.Level.{levelFor}
+use Rattle.sizes.specs.Promise.{Least}
+use Rattle.calls.specs.Call.{grant-pages}
 use Rattle.calls.specs.Step.{Outcome, first, length-checks, list-checks, step}
-
--- l is the smallest level whose block has n pages
-pub record Least (n l : ℕ) : Type 0 where
-  pub enough : n ≤ 2 ^ l
-  pub smallest : (m : ℕ) → n ≤ 2 ^ m → l ≤ m
 
 -- a grant of p pages to tenant t at height h on the table T, with m move entries lent; o is what it does
 pub record GrantByPages (h : ℕ) (T : List ℕ) (t p m : ℕ) (o : Outcome) : Type 0 where

@@ -14,7 +14,8 @@ use Rattle.table.specs.Table.{withNode, nodeAt, occupied, countsOf, in-order?}
 use Rattle.table.specs.Pairing.{newcomer, moved, movesOf}
 use Rattle.table.specs.declared.Move.{Move}
 use Rattle.carrying.specs.Order.{inOrder}
-use Rattle.calls.specs.Call.{Call, grant-level, grant-pages, release, grow, levelFor, tenantOf, entriesOf, leastEntries}
+use Rattle.sizes.specs.Level.{levelFor}
+use Rattle.calls.specs.Call.{Call, grant-level, grant-pages, release, grow, tenantOf, entriesOf, leastEntries}
 
 -- what a call reports, and the table afterwards
 pub record Outcome : Type 0 where

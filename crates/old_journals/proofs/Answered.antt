@@ -14,7 +14,8 @@ use Rattle.journal.specs.declared.Read.{Read}
 use Rattle.journal.specs.Format.{who}
 use Rattle.journal.specs.Journal.{Reading}
 use Rattle.journal.proofs.Theorems.{next-offset}
-use Rattle.calls.specs.Call.{Call, grant-level, grant-pages, release, grow, levelFor}
+use Rattle.sizes.specs.Level.{levelFor}
+use Rattle.calls.specs.Call.{Call, grant-level, grant-pages, release, grow}
 use Rattle.calls.specs.Step.{Outcome, step, open-reserve}
 use Rattle.lines.specs.Ascii.{byte, bytes}
 use Rattle.lines.specs.Decimal.{decimal}

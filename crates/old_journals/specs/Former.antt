@@ -7,7 +7,8 @@ use Rattle.layout.specs.Set.{layoutSet}
 use Rattle.layout.specs.Change.{oneMore}
 use Rattle.table.specs.Table.{countsOf, in-order?}
 use Rattle.journal.specs.declared.Record.{Record}
-use Rattle.calls.specs.Call.{Call, grant-level, grant-pages, release, grow, leastLevel}
+use Rattle.sizes.specs.Level.{leastLevel}
+use Rattle.calls.specs.Call.{Call, grant-level, grant-pages, release, grow}
 use Rattle.calls.specs.Step.{Outcome, check, first, reserve-checks, list-checks, pages-check, grant-holdings, granted, unless, step, open-reserve}
 use Rattle.histories.specs.Listing.{callsOf, openLine, linesAfter}
 

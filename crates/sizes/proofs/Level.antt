@@ -1,6 +1,7 @@
 -- The level that a number of pages takes is the smallest whose block has them and the guard page; 0 names none and takes 4 or the height.
 use mathlib.Core.Path.{_≡_, refl, sym}
 use mathlib.Core.Bool.{Bool, true, false, cond}
+use mathlib.Core.Logic.{_↔_}
 use Prim.Native.Nat.{ℕ, zero, suc, _+_, _-_, _^_, _≤_, _<_}
 use native.Mathlib.Nat.{add-zero, add-suc, suc-add, zero-add, pow-suc, le-antisymm}
 use native.Mathlib.Numerals.{add-one}
@@ -11,8 +12,8 @@ use lib.Dec.{leb}
 use lib.Pow.{pow-mono, pow-pos}
 use Rattle.tree.specs.Node.{depth}
 use Rattle.tree.proofs.Highest.{Highest, depth-highest}
-use Rattle.calls.specs.Call.{leastFrom, leastLevel, levelFor}
-use Rattle.calls.specs.Pages.{Least}
+use Rattle.sizes.specs.Level.{leastFrom, leastLevel, levelFor}
+use Rattle.sizes.specs.Promise.{Least, LevelPromise}
 
 least-from : (l n p : ℕ) → p ≤ 2 ^ (l + n) → ((m : ℕ) → p ≤ 2 ^ m → l ≤ m) → Least p (leastFrom l n p)
 least-from l zero p q s = record { enough = rw (add-zero l) at q; smallest = s }
@@ -47,43 +48,47 @@ least-unique p l m a b = le-antisymm (a .smallest m (b .enough)) (b .smallest l 
 pub least-level-is : (p l : ℕ) → Least p l → leastLevel p ≡ l
 least-level-is p l a = least-unique p (leastLevel p) l (least-level-least p) a
 
--- pages 0 is level 4, or level h on a reserve under height 4
-pub level-for-none : (h : ℕ) → 4 ≤ h → levelFor h 0 ≡ 4
-unfolding levelFor
-level-for-none h q = omega arith
+-- a block with p pages and one more is larger than the reserve from p = 2^h upwards and only there
+least-above : (h p l : ℕ) → Least (p + 1) l → (2 ^ h ≤ p) ↔ (h < l)
+least-above h p l a = (λ q. lacking q (decLt h l), λ above. many above (decLt p (2 ^ h)))
+  where
+    lacking : 2 ^ h ≤ p → Dec (h < l) → h < l
+    lacking q (yes above) = above
+    lacking q (no not-above) = absurd (omega (arith, a .enough, pow-mono (within not-above)))
+      where
+        within : ¬ (h < l) → l ≤ h
+        within f = omega arith
 
-pub level-for-none-low : (h : ℕ) → h < 4 → levelFor h 0 ≡ h
-unfolding levelFor
-level-for-none-low h q = omega arith
+    many : h < l → Dec (p < 2 ^ h) → 2 ^ h ≤ p
+    many above (yes few) = absurd (omega (arith, a .smallest h (omega arith)))
+    many above (no not-few) = omega arith
 
--- any other number takes the smallest level whose block has that many pages and one more
-pub level-for-least : (h p : ℕ) → 0 < p → Least (p + 1) (levelFor h p)
+-- document 02's words, of the definition
+pub level-of-pages : LevelPromise
 unfolding levelFor
-level-for-least h zero q = absurd (omega arith)
-level-for-least h (suc p) q = least-level-least (suc p + 1)
+level-of-pages h zero = record {
+  with-guard = λ q. absurd (omega arith);
+  no-size = λ z q. omega arith;
+  no-size-low = λ z q. omega arith;
+  above-height = (λ q. absurd (omega (arith, pow-pos h)), λ above. absurd (omega arith));
+}
+level-of-pages h (suc p) = record {
+  with-guard = λ q. least-level-least (suc p + 1);
+  no-size = λ z q. absurd (omega arith);
+  no-size-low = λ z q. absurd (omega arith);
+  above-height = least-above h (suc p) (leastLevel (suc p + 1)) (least-level-least (suc p + 1));
+}
 
 pub level-for-named : (h p : ℕ) → 0 < p → levelFor h p ≡ leastLevel (p + 1)
-level-for-named h p q = sym (least-level-is (p + 1) (levelFor h p) (level-for-least h p q))
+level-for-named h p q = sym (least-level-is (p + 1) (levelFor h p) (level-of-pages h p .with-guard q))
 
--- so pages of which the reserve has one more take a level that it has
+-- pages of which the reserve has one more take a level that it has
 pub level-for-le : (h p : ℕ) → p < 2 ^ h → levelFor h p ≤ h
-level-for-le h zero q = go (decLt h 4)
+level-for-le h p q = go (decLt h (levelFor h p))
   where
-    go : Dec (h < 4) → levelFor h 0 ≤ h
-    go (yes low) = omega (arith, level-for-none-low h low)
-    go (no high) = omega (arith, level-for-none h (omega arith))
-level-for-le h (suc p) q = level-for-least h (suc p) (omega arith) .smallest h (omega arith)
-
--- and all others a level that it lacks
-pub level-for-above : (h p : ℕ) → 2 ^ h ≤ p → h < levelFor h p
-level-for-above h p q = go (level-for-least h p (omega (arith, pow-pos h))) (decLt h (levelFor h p))
-  where
-    go : Least (p + 1) (levelFor h p) → Dec (h < levelFor h p) → h < levelFor h p
-    go a (yes r) = r
-    go a (no nr) = absurd (omega (arith, a .enough, pow-mono (not-lt nr)))
-      where
-        not-lt : ¬ (h < levelFor h p) → levelFor h p ≤ h
-        not-lt f = omega arith
+    go : Dec (h < levelFor h p) → levelFor h p ≤ h
+    go (yes above) = absurd (omega (arith, level-of-pages h p .above-height .1 above))
+    go (no not-above) = omega arith
 
 -- two pages or more: the level above the depth of one page less
 pub least-by-depth : (p : ℕ) → 1 < p → Least p (depth (p - 1) + 1)

@@ -1,10 +1,10 @@
--- `calls::request::level_for` meets its contract: no size takes level 4 or the height, and any other the smallest level for one page more.
+-- `sizes::level_for` meets its contract: no size takes level 4 or the height, and any other the smallest level for one page more.
 use mathlib.Core.Path.{sym, _∙_}
 use native.Mathlib.Omega.{arith}
 use borrow.Author.Needs.{needs}
-use Rattle.calls.proofs.Level.{level-for-named}
-use Rattle.calls.proofs.request.level_for.Statement.{statement}
-use Rattle.calls.proofs.request.level_for.Tie as tie
+use Rattle.sizes.proofs.Level.{level-for-named}
+use Rattle.sizes.proofs.level_for.Statement.{statement}
+use Rattle.sizes.proofs.level_for.Tie as tie
 
 level-of-no-size-requires : tie.Need-level-of-no-size-requires
 level-of-no-size-requires c κs = search needs

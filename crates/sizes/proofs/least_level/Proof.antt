@@ -1,13 +1,13 @@
--- `calls::request::least_level` meets its contract: one page needs level 0, and more the level above the depth of one page less.
+-- `sizes::least_level` meets its contract: one page needs level 0, and more the level above the depth of one page less.
 use mathlib.Core.Path.{sym}
 use Prim.Native.Nat.{_+_, _-_, zero-le}
 use native.Mathlib.Omega.{arith}
 use borrow.Author.Needs.{needs}
 use Rattle.tree.specs.Node.{depth}
 use Rattle.tree.proofs.Highest.{leading-depth}
-use Rattle.calls.proofs.Level.{least-level-is, least-by-depth}
-use Rattle.calls.proofs.request.least_level.Statement.{statement}
-use Rattle.calls.proofs.request.least_level.Tie as tie
+use Rattle.sizes.proofs.Level.{least-level-is, least-by-depth}
+use Rattle.sizes.proofs.least_level.Statement.{statement}
+use Rattle.sizes.proofs.least_level.Tie as tie
 
 returns : tie.Need-returns
 returns c = sym (least-level-is (c .before .args .pages) 0 (record { enough = omega arith; smallest = λ m q. zero-le }))
