@@ -18,6 +18,11 @@
  * pages, or the whole of a reserve under height 4, without a guard page. A block that is named by its level has just its
  * 2^level pages: who needs a single page asks for level 0.
  *
+ * A start may come twice, because the reply to the first was lost: a grant to a tenant that holds a block of just the level
+ * asked for, or of the level that the pages asked for take, is answered with the node that the tenant has now, without moves and
+ * without a change of any byte. So it may be repeated as often as one likes, on a full reserve too. The moves of the first grant
+ * were reported by the first grant alone. A grant to a tenant that holds a block of another level is refused.
+ *
  * A tenant can exchange its block for a larger or a smaller one: it grows, up or down, to a level. Its old block counts as
  * given back, so there is room if the pages of the others and of the new block are no more than the reserve has. If there is no
  * room, it keeps its block.
@@ -114,8 +119,9 @@ extern "C" {
  * arguments raises it: the major number, and the minor one is then 0, if programs have to be changed or compiled again; the
  * minor number if something is only added. 2.0: a grant by pages has a guard page. 3.0: a move has a fourth number, and the
  * moves stand in an order in which they can be carried out. 4.0: a grant of 0 pages gets 16 pages, and no longer one. 5.0: a
- * tenant can grow or shrink, and a journal has records of that. */
-#define RESERVE_VERSION_MAJOR 5
+ * tenant can grow or shrink, and a journal has records of that. 6.0: a grant of the level that its tenant holds answers 0 and the
+ * tenant's node, and no longer 8. */
+#define RESERVE_VERSION_MAJOR 6
 #define RESERVE_VERSION_MINOR 0
 #define RESERVE_VERSION (1000 * RESERVE_VERSION_MAJOR + RESERVE_VERSION_MINOR)
 
@@ -145,7 +151,7 @@ enum reserve_answer {
     RESERVE_REFUSED_LEVEL = 5,         /* the level is above the height */
     RESERVE_REFUSED_PAGES = 6,         /* the pages with their guard page are more than the reserve has: 2^h or more are named */
     RESERVE_REFUSED_NOT_IN_ORDER = 7,  /* the table is none that this planner leaves at this height; or a number is no node */
-    RESERVE_REFUSED_HOLDS = 8,         /* a grant to a tenant that holds a block */
+    RESERVE_REFUSED_HOLDS = 8,         /* a grant to a tenant that holds a block of another level */
     RESERVE_REFUSED_HOLDS_NONE = 9,    /* a release or a growth by a tenant that holds none */
     RESERVE_REFUSED_NO_ROOM = 10,      /* the pages held and the new block are more than the reserve has; of a growth, those of the
                                           others and its new block */
@@ -206,12 +212,14 @@ struct reserve_written {
 /* Opens a reserve: every byte of the table becomes 0. Answers 0, 1 or 2. */
 uint16_t reserve_open(uint16_t height, uint8_t *table, size_t table_length);
 
-/* Grants a tenant a block of 2^level pages. Answers 0, or 1 to 5, 7, 8 or 10. */
+/* Grants a tenant a block of 2^level pages; one that holds such a block keeps it, without moves. Answers 0, or 1 to 5, 7, 8 or
+ * 10. */
 struct reserve_outcome reserve_grant_level(uint16_t height, uint8_t *table, size_t table_length, uint8_t *moves,
                                            size_t moves_length, uint16_t tenant, uint16_t level);
 
 /* Grants a tenant the smallest block that has so many pages and one more, the guard page; 0 pages get a block of 16 pages, or the
- * whole of a reserve under height 4. Answers 0, or 1 to 4, 6 to 8 or 10; 6 never for 0 pages. */
+ * whole of a reserve under height 4. A tenant that holds a block of just that size keeps it, without moves. Answers 0, or 1 to 4,
+ * 6 to 8 or 10; 6 never for 0 pages. */
 struct reserve_outcome reserve_grant_pages(uint16_t height, uint8_t *table, size_t table_length, uint8_t *moves,
                                            size_t moves_length, uint16_t tenant, uint16_t pages);
 

@@ -17,8 +17,9 @@ pub struct Done {
 pub fn grant(height: u16, table: &mut [u16; TENANTS], tenant: u16, level: u16) -> Result<Done, u16> {
     let mut owners = [0; NODES];
     let mut counts = survey(height, table, &mut owners).ok_or(7u16)?;
-    if table[usize::from(tenant)] != 0 {
-        return Err(8);
+    let own = table[usize::from(tenant)];
+    if own != 0 {
+        return again(height, own, level);
     }
     if total(&counts) + (1 << level) > 1 << height {
         return Err(10);
@@ -30,6 +31,13 @@ pub fn grant(height: u16, table: &mut [u16; TENANTS], tenant: u16, level: u16) -
     carry_out(table, &plan);
     table[usize::from(tenant)] = node;
     Ok(Done { node, plan })
+}
+
+/// A grant to a tenant that has a node: it keeps that if it is of the level, and is refused if not.
+fn again(height: u16, node: u16, level: u16) -> Result<Done, u16> {
+    let plan = Plan::default();
+    let is_same = level_of(height, node) == usize::from(level);
+    is_same.then_some(Done { node, plan }).ok_or(8)
 }
 
 /// Releases the tenant's block, or gives the number of the refusal.

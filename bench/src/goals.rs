@@ -4,7 +4,7 @@ use std::error::Error;
 
 use crate::counting::BYTEWISE;
 use crate::counts::Count;
-use crate::rows::{Row, CALLS, GROWTHS, HEIGHTS};
+use crate::rows::{Row, CALLS, HEIGHTS, OF_HOLDERS};
 use crate::stats::median;
 use crate::timing::{Figures, PASS, SAME, SECOND};
 
@@ -78,7 +78,7 @@ pub fn of_map_counts(maps: &[Row], counts: &[Count]) -> Option<Goal> {
 pub fn of_counts(rows: &[Row], counts: &[Count]) -> Vec<Goal> {
     let mut goals = Vec::new();
     for height in HEIGHTS {
-        for call in CALLS.into_iter().chain(GROWTHS.map(|(call, _)| call)) {
+        for call in CALLS.into_iter().chain(OF_HOLDERS.map(|(call, _)| call)) {
             let chosen = |row: &Row| row.height == height && row.call == call;
             let against_same = of_rows(rows, counts, chosen).map(|(row, library, same)| (library / same, row.name()));
             goals.extend(Goal::worst(
@@ -103,23 +103,48 @@ pub fn of_counts(rows: &[Row], counts: &[Count]) -> Vec<Goal> {
             place: longest.place,
         });
         goals.extend(growth_against_grant(height, rows, counts));
+        goals.extend(repeated_against_grant(height, rows, counts));
     }
     goals
+}
+
+/// What the library took for the calls of the rows at a height whose name begins like this.
+fn in_rows<'a>(
+    height: u16,
+    call: &'static str,
+    rows: &'a [Row],
+    counts: &'a [Count],
+) -> impl Iterator<Item = (&'a Count, &'a Row)> {
+    let of_rows = counts
+        .iter()
+        .filter(|count| count.who == "library" && count.set == "row");
+    of_rows
+        .map(|count| (count, &rows[count.place]))
+        .filter(move |(_, row)| row.height == height && row.call.starts_with(call))
+}
+
+/// The median instructions of the grants at a height that are answered 0, without those that are repeated.
+fn median_grant(height: u16, rows: &[Row], counts: &[Count]) -> f64 {
+    let granted = in_rows(height, "grant", rows, counts).filter(|(count, _)| count.answer == 0);
+    median(granted.map(|(count, _)| count.instructions as f64))
+}
+
+/// That a grant that is repeated takes no more instructions than one that is not: the longest one against the median of these.
+fn repeated_against_grant(height: u16, rows: &[Row], counts: &[Count]) -> Option<Goal> {
+    let grant = median_grant(height, rows, counts);
+    let repeated = in_rows(height, "repeated grant", rows, counts);
+    let ratios = repeated.map(|(count, row)| (count.instructions as f64 / grant, row.name()));
+    Goal::worst("longest repeated grant ÷ median grant, instructions", 1.0, ratios)
 }
 
 /// That a growth at a height takes at most twice the instructions of a grant: the longest one against the median of the grants
 /// that are answered 0.
 fn growth_against_grant(height: u16, rows: &[Row], counts: &[Count]) -> Option<Goal> {
-    let library = || counts.iter().filter(|count| count.who == "library");
-    let in_rows = |call: &'static str| {
-        let chosen =
-            move |count: &&Count| count.set == "row" && count.call == call && rows[count.place].height == height;
-        library().filter(chosen)
-    };
-    let granted = in_rows("grant").filter(|count| count.answer == 0);
-    let grant = median(granted.map(|count| count.instructions as f64));
-    let of_rows = in_rows("growth").map(|count| (count, rows[count.place].name()));
-    let with_most_moves = library().filter(|count| count.set == "growths" && count.place == usize::from(height));
+    let grant = median_grant(height, rows, counts);
+    let of_rows = in_rows(height, "growth", rows, counts).map(|(count, row)| (count, row.name()));
+    let with_most_moves = counts
+        .iter()
+        .filter(|count| count.who == "library" && count.set == "growths" && count.place == usize::from(height));
     let of_most_moves = with_most_moves.map(|count| (count, format!("height {height}, growth, {} moves", count.moves)));
     let all = of_rows.chain(of_most_moves);
     let ratios = all.map(|(count, place)| (count.instructions as f64 / grant, place));

@@ -101,11 +101,14 @@ impl Crowd<'_> {
         self.asks.push(Ask::Release { tenant });
     }
 
-    /// A release by somebody who holds nothing, or a grant to somebody who does.
+    /// A release by somebody who holds nothing, or a grant of another level to somebody who does.
     fn refused(&mut self) {
-        let holder = self.holders.first().map(|&(tenant, _)| tenant);
+        let holder = self.holders.first().copied();
         let ask = match holder {
-            Some(tenant) if self.random.one_in(2) => Ask::Grant { tenant, level: 0 },
+            Some((tenant, held)) if self.random.one_in(2) => Ask::Grant {
+                tenant,
+                level: u16::from(held == 0),
+            },
             _ => Ask::Release {
                 tenant: self.newcomer(),
             },

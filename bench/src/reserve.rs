@@ -41,16 +41,32 @@ impl Reserve {
         }
     }
 
-    /// A grant of each level that there is room for; of every level, if there is room for none.
+    /// A grant of each level that there is room for; of every level, if there is room for none. A tenant that has the level, as
+    /// there is nobody who holds nothing, asks for the next.
     pub fn grants(&self, random: &mut Random) -> Vec<Ask> {
         let held: u32 = self.holders.iter().map(|holder| 1 << holder.level).sum();
         let room = (1 << self.height) - held;
         let fits = |level: &u16| room == 0 || 1 << level <= room;
-        let grant = |level| Ask::Grant {
-            tenant: self.newcomer(random),
-            level,
+        let grant = |level| {
+            let tenant = self.newcomer(random);
+            let level = level + u16::from(self.has(tenant, level));
+            Ask::Grant { tenant, level }
         };
         (0..=self.height).filter(fits).map(grant).collect()
+    }
+
+    fn has(&self, tenant: u16, level: u16) -> bool {
+        let level = level.into();
+        self.holders.contains(&Holder { tenant, level })
+    }
+
+    /// A grant of the level that it has to the first and to the last holder of each level, as they were drawn.
+    pub fn repeated_grants(&self) -> Vec<Ask> {
+        let grant = |holder: &Holder| Ask::Grant {
+            tenant: holder.tenant,
+            level: holder.level as u16,
+        };
+        self.ends().map(grant).collect()
     }
 
     /// A release by the first and by the last holder of each level, as they were drawn; by nobody, if there is no

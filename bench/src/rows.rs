@@ -48,14 +48,17 @@ struct Kind {
     calls: &'static [&'static str],
 }
 
-/// The calls that are timed, growths apart.
+/// The calls that are timed, those of holders who stay apart.
 pub const CALLS: [&str; 5] = ["open", "grant", "release", "map", "count"];
 
-/// The growths that are timed, with the levels that they go to, by the one held and the one asked for.
-pub const GROWTHS: [(&str, fn(u16, u16) -> bool); 3] = [
-    ("growth up", |held, asked| held < asked),
-    ("growth down", |held, asked| held > asked),
-    ("growth to the same level", |held, asked| held == asked),
+/// The calls of holders who stay that are timed, with what is asked on a reserve.
+pub const OF_HOLDERS: [(&str, fn(&Reserve) -> Vec<Ask>); 4] = [
+    ("growth up", |reserve| reserve.growths(|held, asked| held < asked)),
+    ("growth down", |reserve| reserve.growths(|held, asked| held > asked)),
+    ("growth to the same level", |reserve| {
+        reserve.growths(|held, asked| held == asked)
+    }),
+    ("repeated grant", Reserve::repeated_grants),
 ];
 
 fn kinds(height: u16, random: &mut Random) -> [Kind; 7] {
@@ -75,7 +78,7 @@ fn kinds(height: u16, random: &mut Random) -> [Kind; 7] {
     ]
 }
 
-/// All rows, by height and call, those of growths last.
+/// All rows, by height and call, those of holders who stay last.
 pub fn rows() -> Vec<Row> {
     let mut random = Random::new(SEED);
     let mut rows = Vec::new();
@@ -96,11 +99,11 @@ pub fn rows() -> Vec<Row> {
         }
         reserves.push((height, kinds));
     }
-    // All that stands above is drawn as it would be without growths.
+    // All that stands above is drawn as it would be without these.
     for (height, kinds) in &reserves {
-        for (call, wanted) in GROWTHS {
+        for (call, asks) in OF_HOLDERS {
             for kind in kinds.iter().filter(|kind| kind.calls == CALLS) {
-                let inputs = inputs(*height, &kind.counts, &mut random, |reserve, _| reserve.growths(wanted));
+                let inputs = inputs(*height, &kind.counts, &mut random, |reserve, _| asks(reserve));
                 rows.extend(by_outcome(call, kind.reserve, inputs));
             }
         }

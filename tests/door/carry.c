@@ -53,12 +53,12 @@ struct box {
     int misshapen;         /* a list that is not as the header says */
 };
 
-/* what all right histories together had, growths and the other calls apart */
+/* what all right histories together had: growths, starts that were repeated, and the other calls */
 static struct total {
     unsigned long calls, moves, staged;
     unsigned most_moves, most_staged;
     unsigned most_pages; /* that one list staged, in 4,096ths of the reserve */
-} of_growths, of_others;
+} of_growths, of_others, of_repeated;
 
 struct move {
     unsigned tenant, from, to, staged;
@@ -232,6 +232,17 @@ static int is_well_formed(const struct box *box, struct call call, unsigned coun
     return 1;
 }
 
+/* whether a call that was answered 0 is a start that is repeated: the tenant's data lies there already */
+static int is_repeated(const struct box *box, struct call call) {
+    int grants = call.kind == RESERVE_KIND_GRANT_LEVEL || call.kind == RESERVE_KIND_GRANT_PAGES;
+    return grants && box->node[call.tenant] != 0;
+}
+
+/* a repeated start tells where the data lies, and nobody moves */
+static int is_fitting(const struct box *box, struct call call, struct reserve_outcome got) {
+    return !is_repeated(box, call) || (got.node == box->node[call.tenant] && got.moves == 0);
+}
+
 static unsigned long spoilt_pages(const struct box *box) {
     unsigned long spoilt = 0;
     for (unsigned tenant = 0; tenant < RESERVE_TENANTS; tenant++) {
@@ -315,23 +326,32 @@ static struct reserve_outcome make_call(struct box *box, struct call call) {
     }
 }
 
+/* there is nothing to carry out of a start that is repeated */
+static void carry_out(struct box *box, struct call call, struct reserve_outcome got) {
+    struct total *total = &of_others;
+    if (is_repeated(box, call)) {
+        total = &of_repeated;
+    } else if (call.kind == RESERVE_KIND_RELEASE) {
+        carry_out_release(box, call.tenant, got);
+    } else if (call.kind == RESERVE_KIND_GROW) {
+        total = &of_growths;
+        carry_out_growth(box, call.tenant, got);
+    } else {
+        carry_out_grant(box, call.tenant, got);
+    }
+    if (box->way == AS_SAID) {
+        add_up(box, total, got.moves);
+    }
+}
+
 static void make_and_carry_out(struct box *box, struct call call) {
     struct reserve_outcome got = make_call(box, call);
     if (got.answer == RESERVE_DONE) {
-        box->misshapen = !is_well_formed(box, call, got.moves);
+        box->misshapen = !is_well_formed(box, call, got.moves) || !is_fitting(box, call, got);
         if (box->misshapen) {
             return;
         }
-        if (call.kind == RESERVE_KIND_RELEASE) {
-            carry_out_release(box, call.tenant, got);
-        } else if (call.kind == RESERVE_KIND_GROW) {
-            carry_out_growth(box, call.tenant, got);
-        } else {
-            carry_out_grant(box, call.tenant, got);
-        }
-        if (box->way == AS_SAID) {
-            add_up(box, call.kind == RESERVE_KIND_GROW ? &of_growths : &of_others, got.moves);
-        }
+        carry_out(box, call, got);
     }
     box->spoilt = spoilt_pages(box);
 }
@@ -411,6 +431,8 @@ int main(int argc, char **argv) {
     }
     check_total("grants and releases", &of_others, 1, PAGES / 4);
     check_total("growths", &of_growths, 2, PAGES / 32 * 5);
+    printf("%lu starts that were repeated\n", of_repeated.calls);
+    expect(of_repeated.calls > 0);
     for (size_t i = 0; i < sizeof wrong_ways / sizeof wrong_ways[0]; i++) {
         check_wrong_way(&box, i, seed);
     }

@@ -210,8 +210,9 @@ static void four_pages(void) {
     EXPECT(node_of(box.table, 0) == 3 && node_of(box.table, 1) == 4);
     EXPECT(refused(release(box, 7), RESERVE_REFUSED_HOLDS_NONE));
     EXPECT(refused(grant_pages(box, 3, 1), RESERVE_REFUSED_NO_ROOM));
-    EXPECT(refused(grant_level(box, 1, 0), RESERVE_REFUSED_HOLDS));
+    EXPECT(refused(grant_level(box, 1, 1), RESERVE_REFUSED_HOLDS));
     EXPECT(moves_end_after(box, 0));
+    EXPECT(granted(box, grant_level(box, 1, 0), 1, 4, 0));
     EXPECT(released(box, release(box, 1), 1, 4, 2));
     EXPECT(is_direct(box.moves, 0, 0, 3, 2));
     EXPECT(is_staged(box.moves, 1, 2, 5, 6));
@@ -389,7 +390,7 @@ static void no_size(void) {
         }
         EXPECT(right);
         EXPECT(refused(grant_pages(box, (uint16_t)images, 0), RESERVE_REFUSED_NO_ROOM));
-        EXPECT(refused(grant_pages(box, 0, 0), RESERVE_REFUSED_HOLDS));
+        EXPECT(granted(box, grant_pages(box, 0, 0), 0, images, 0));
         EXPECT(released(box, release(box, (uint16_t)(images - 1)), images - 1, 2 * images - 1, 0));
         EXPECT(grant_level(box, 4095, 0).answer == RESERVE_DONE);
         EXPECT(refused(grant_pages(box, (uint16_t)images, 0), RESERVE_REFUSED_NO_ROOM));
@@ -438,6 +439,8 @@ static void not_in_order(void) {
         put_node(box.table, 4095, nodes[i][1]);
         copy = copy_of(box.table);
         EXPECT(refused(grant_level(box, 100, 0), RESERVE_REFUSED_NOT_IN_ORDER));
+        EXPECT(refused(grant_level(box, 100, 1), RESERVE_REFUSED_NOT_IN_ORDER));
+        EXPECT(refused(grant_pages(box, 100, 1), RESERVE_REFUSED_NOT_IN_ORDER));
         EXPECT(refused(grant_pages(box, 5, 7), RESERVE_REFUSED_NOT_IN_ORDER));
         EXPECT(refused(release(box, 5), RESERVE_REFUSED_NOT_IN_ORDER));
         EXPECT(refused(grow(box, 5, 3), RESERVE_REFUSED_NOT_IN_ORDER));
@@ -448,16 +451,17 @@ static void not_in_order(void) {
     }
 }
 
-/* all tenants at once, and none again */
+/* all tenants at once, and all again, but none with more */
 static void everybody(void) {
     struct box box = open_box(12);
     unsigned t;
     int right = 1;
-    for (t = 0; t < RESERVE_TENANTS; t++) {
-        right = right && granted(box, grant_level(box, (uint16_t)t, 0), t, 4096 + t, 0);
+    for (t = 0; t < 2 * RESERVE_TENANTS; t++) {
+        uint16_t tenant = (uint16_t)(t % RESERVE_TENANTS);
+        right = right && granted(box, grant_level(box, tenant, 0), tenant, 4096u + tenant, 0);
     }
     EXPECT(right);
-    EXPECT(refused(grant_level(box, 0, 0), RESERVE_REFUSED_HOLDS));
+    EXPECT(refused(grant_level(box, 0, 1), RESERVE_REFUSED_HOLDS));
     right = 1;
     for (t = RESERVE_TENANTS; t > 0; t--) {
         right = right && released(box, release(box, (uint16_t)(t - 1)), t - 1, 4096 + t - 1, 0);
@@ -465,6 +469,63 @@ static void everybody(void) {
     EXPECT(right);
     EXPECT(all_are(box.table, 0));
     close_box(box);
+}
+
+/* ---- a start that is repeated */
+
+/* the node that the tenant has if it asks for just that level, else 8; not one byte of the table or of the list changes */
+static int told(struct box box, const uint8_t *table, struct reserve_outcome got, unsigned tenant, int same) {
+    int is_right = same ? granted(box, got, tenant, node_of(box.table, tenant), 0) : refused(got, RESERVE_REFUSED_HOLDS);
+    return is_right && moves_end_after(box, 0) && memcmp(table, box.table.bytes, box.table.length) == 0;
+}
+
+/* tenant 0 has two pages of eight, and tenant 4095 four: every level, and every size after it is rounded */
+static void start_again(struct box box) {
+    uint8_t *table = copy_of(box.table);
+    uint16_t level, pages;
+    for (level = 0; level <= 3; level++) {
+        EXPECT(told(box, table, grant_level(box, 0, level), 0, level == 1));
+        EXPECT(told(box, table, grant_level(box, 4095, level), 4095, level == 2));
+    }
+    for (pages = 0; pages <= 7; pages++) {
+        EXPECT(told(box, table, grant_pages(box, 0, pages), 0, pages == 1));
+        EXPECT(told(box, table, grant_pages(box, 4095, pages), 4095, pages == 2 || pages == 3));
+    }
+    free(table);
+}
+
+/* with room for another tenant, without, and after a growth there and back */
+static void starting_again(void) {
+    struct box box = open_box(3);
+    EXPECT(granted(box, grant_level(box, 0, 1), 0, 4, 0));
+    EXPECT(granted(box, grant_pages(box, 4095, 3), 4095, 2, 1));
+    EXPECT(is_direct(box.moves, 0, 0, 4, 6));
+    start_again(box);
+    EXPECT(granted(box, grant_level(box, 7, 1), 7, 5, 2));
+    EXPECT(refused(grant_level(box, 8, 0), RESERVE_REFUSED_NO_ROOM));
+    start_again(box);
+    EXPECT(grow(box, 4095, 0).answer == RESERVE_DONE);
+    EXPECT(refused(grant_level(box, 4095, 2), RESERVE_REFUSED_HOLDS));
+    EXPECT(granted(box, grant_level(box, 4095, 0), 4095, node_of(box.table, 4095), 0));
+    EXPECT(grow(box, 4095, 2).answer == RESERVE_DONE);
+    start_again(box);
+    close_box(box);
+}
+
+/* a list of fewer than 32 bytes is refused here too; 32 and more are not written */
+static void bytes_of_starting_again(void) {
+    size_t n;
+    for (n = 0; n <= RESERVE_MOVES_BYTES + RESERVE_MOVE_BYTES; n++) {
+        unsigned answer = n < RESERVE_MOVES_BYTES ? RESERVE_REFUSED_MOVES : RESERVE_DONE;
+        struct lent table = lend(RESERVE_TABLE_BYTES, 0);
+        struct lent moves = lend(n, 0x22);
+        put_node(table, 4095, 2);
+        EXPECT(reserve_grant_level(2, table.bytes, table.length, moves.bytes, n, 4095, 1).answer == answer);
+        EXPECT(reserve_grant_pages(2, table.bytes, table.length, moves.bytes, n, 4095, 1).answer == answer);
+        EXPECT(all_are(moves, 0x22) && node_of(table, 4095) == 2);
+        give_back(table);
+        give_back(moves);
+    }
 }
 
 /* ---- growth */
@@ -815,6 +876,8 @@ int main(void) {
     byte_order();
     not_in_order();
     everybody();
+    starting_again();
+    bytes_of_starting_again();
     growing();
     seven_moves();
     bytes_of_seven_moves();

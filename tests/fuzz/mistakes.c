@@ -40,22 +40,41 @@ struct reserve_outcome __wrap_reserve_release(uint16_t height, uint8_t *table, s
     return got;
 }
 
-/* 4: a grant by level that moves three writes one byte past the last move. */
+/* The node in a tenant's entry; 0 if there is none, or no such tenant. */
+static int node_in(const uint8_t *table, size_t table_length, uint16_t tenant) {
+    int in_table = table_length == RESERVE_TABLE_BYTES && tenant < RESERVE_TENANTS;
+    return in_table ? number(table + 2 * tenant) : 0;
+}
+
+/* 4: a grant by level that moves three writes one byte past the last move.
+ * 14: one that is repeated by a tenant of level 3 is refused with 8, on a reserve of height 9. */
 struct reserve_outcome __wrap_reserve_grant_level(uint16_t height, uint8_t *table, size_t table_length, uint8_t *moves,
                                                   size_t moves_length, uint16_t tenant, uint16_t level) {
+    int node = node_in(table, table_length, tenant);
     struct reserve_outcome got = __real_reserve_grant_level(height, table, table_length, moves, moves_length, tenant, level);
     if (MISTAKE == 4 && got.moves == 3) moves[3 * RESERVE_MOVE_BYTES] ^= 1;
+    if (MISTAKE == 14 && got.answer == RESERVE_DONE && node != 0 && height == 9 && level == 3) {
+        got.answer = RESERVE_REFUSED_HOLDS;
+        got.node = 0;
+    }
     return got;
 }
 
 /* 5: a spoilt table is refused as "no room" where one page is asked of the tallest reserve.
- * 9: an image that names no size gets a guard page behind its sixteen pages on a reserve of height 5. */
+ * 9: an image that names no size gets a guard page behind its sixteen pages on a reserve of height 5.
+ * 15: a tenant of level 2 or more that names all pages of its block is told its node, as if they had no guard page. */
 struct reserve_outcome __wrap_reserve_grant_pages(uint16_t height, uint8_t *table, size_t table_length, uint8_t *moves,
                                                   size_t moves_length, uint16_t tenant, uint16_t pages) {
     uint16_t asked = MISTAKE == 9 && height == 5 && pages == 0 ? 16 : pages;
+    int node = node_in(table, table_length, tenant);
     struct reserve_outcome got = __real_reserve_grant_pages(height, table, table_length, moves, moves_length, tenant, asked);
     if (MISTAKE == 5 && got.answer == RESERVE_REFUSED_NOT_IN_ORDER && height == RESERVE_MAX_HEIGHT && pages == 1)
         got.answer = RESERVE_REFUSED_NO_ROOM;
+    if (MISTAKE == 15 && got.answer == RESERVE_REFUSED_HOLDS && pages >= 4 &&
+        pages == reserve_node_pages(height, (uint16_t)node).count) {
+        got.answer = RESERVE_DONE;
+        got.node = (uint16_t)node;
+    }
     return got;
 }
 
@@ -65,14 +84,13 @@ struct reserve_outcome __wrap_reserve_grant_pages(uint16_t height, uint8_t *tabl
  * 13: a growth to the level that the tenant has is taken with four entries. */
 struct reserve_outcome __wrap_reserve_grow(uint16_t height, uint8_t *table, size_t table_length, uint8_t *moves,
                                            size_t moves_length, uint16_t tenant, uint16_t level) {
-    int in_table = table_length == RESERVE_TABLE_BYTES && tenant < RESERVE_TENANTS;
-    int node = in_table ? number(table + 2 * tenant) : 0;
+    int node = node_in(table, table_length, tenant);
     struct reserve_outcome got = __real_reserve_grow(height, table, table_length, moves, moves_length, tenant, level);
     uint8_t *last = moves + (got.moves > 0 ? got.moves - 1 : 0) * RESERVE_MOVE_BYTES;
     if (MISTAKE == 10 && got.moves >= 4) last[4] ^= 1;
     if (MISTAKE == 11 && got.moves > 1 && (last - RESERVE_MOVE_BYTES)[6] == 1) (last - RESERVE_MOVE_BYTES)[6] = 0;
     if (MISTAKE == 12 && got.answer == RESERVE_DONE && height == 8 && level == 0 && node < 16) got.node ^= 1;
-    if (MISTAKE == 13 && got.answer == RESERVE_REFUSED_MOVES && moves_length >= RESERVE_MOVES_BYTES && in_table && level < height &&
+    if (MISTAKE == 13 && got.answer == RESERVE_REFUSED_MOVES && moves_length >= RESERVE_MOVES_BYTES && level < height &&
         node >> (height - level) == 1) {
         got.answer = RESERVE_DONE;
         got.node = (uint16_t)node;

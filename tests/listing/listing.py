@@ -138,6 +138,12 @@ class Pages:
     def enter(self, tenant, node):
         self.replace(node, None, tenant)
 
+    def keep(self, tenant, node):
+        before = self.tenants
+        self.lift(tenant)
+        self.enter(tenant, node)
+        assert self.tenants == before, f"{tenant} should lie on node {node} already"
+
 
 def work(pages, moves):
     """Lifts the staged tenants, then sets down everybody in the order of the list, in which they come last."""
@@ -165,6 +171,9 @@ def carry_out(lines):
         elif answer == "0" and kind == "R":
             pages.leave(who, node)
             work(pages, moves)
+        elif answer == "0" and kind != "Z" and who in pages.tenants:
+            assert not moves, f"a grant that is repeated moves somebody: {line}"
+            pages.keep(who, node)
         elif answer == "0":
             if kind == "Z":
                 pages.lift(who)
@@ -194,7 +203,7 @@ def check_carried_out(name, listing):
 
 
 def check_carrying_out():
-    """Of these lists for one grant, and then for one growth, only the first can be carried out."""
+    """Of these lists for one grant, for one that is repeated, and then for one growth, only the first can be carried out."""
     granted = "1 O 2 - 0 - 0", "2 G 0 1 0 2 0", "3 G 1 0 0 6 0"
     single = "1 O 2 - 0 - 0", "2 G 0 0 0 4 0", "3 G 1 0 0 5 0", "4 G 2 0 0 6 0"
     for before, line, right in (
@@ -202,6 +211,11 @@ def check_carrying_out():
         (granted, "4 G 2 0 0 5 2 0:2>3 1:6>4", False),
         (granted, "4 G 2 0 0 5 2 1:6>4 0:2>3", False),
         (granted, "4 G 2 0 0 5 2 1:6=4 0:2>3", False),
+        (granted, "4 G 0 1 0 2 0", True),
+        (granted, "4 G 0 1 0 3 0", False),
+        (granted, "4 P 0 0 0 4 0", False),
+        (granted, "4 P 0 1 0 1 0", False),
+        (granted, "4 G 0 1 0 2 1 1:6>7", False),
         (single, "5 Z 0 1 0 3 1 2:6>4", True),
         (single, "5 Z 0 1 0 3 0", False),
         (single, "5 Z 0 1 0 3 2 0:4>3 2:6>4", False),

@@ -1,11 +1,13 @@
 -- Demand 2 for every height, table and call.
 use mathlib.Core.Path.{_≡_, refl, sym, ap, _∙_, subst, fun-ext}
-use mathlib.Core.Bool.{Bool, true, false, not, cond}
+use mathlib.Core.Bool.{Bool, true, false, not, cond, false≢true}
 use mathlib.Core.List.{List, _∷_, _++_}
-use mathlib.Core.Option.{some, none}
+use mathlib.Core.Logic.{_↔_}
+use mathlib.Core.Option.{Option, some, none}
 use Prim.Native.Nat.{ℕ, suc, _+_, _≤_, _<_}
 use native.Mathlib.Omega.{arith}
-use borrow.Author.Tests.{eqb-true, eqb-false, not-false}
+use native.Mathlib.Decide.{ℕ-discrete}
+use borrow.Author.Tests.{eqb-true, eqb-false, eq-eqb, not-false}
 use lib.Dec.{eqb, ltb}
 use lib.ListN.{length, getD, set}
 use Rattle.tree.specs.Node.{level}
@@ -30,14 +32,17 @@ use Rattle.carrying.proofs.Moving.{Unsorted}
 use Rattle.carrying.proofs.Ordered.{in-order-length, in-order-entry, in-order-has, in-order-once}
 use Rattle.carrying.proofs.Workable.{in-order-workable}
 use Rattle.calls.specs.Call.{Call, tenantOf}
-use Rattle.calls.specs.Step.{Outcome, first, check, validity, countsBut, holdings, checks, granted, released, refused, step}
-use Rattle.calls.specs.History.{Book}
+use Rattle.calls.specs.Step.{Outcome, first, check, validity, countsBut, holdings, checks, granted, repeated, released, refused, step}
+use Rattle.calls.specs.History.{Book, enter, gave-block, inTable}
 use Rattle.calls.specs.Demand.{Agrees, Asks, Releases, Grows}
-use Rattle.calls.specs.Accepted.{Shifted, Settled, Placed, AfterGrant, AfterRelease, AfterGrowth, Demand2}
-use Rattle.calls.proofs.Checks.{Sound, answer-is-first, validity-numbered, not-applied, rest-zero, height-passed, length-passed}
+use Rattle.calls.specs.Accepted.{Shifted, Settled, Placed, AfterGrant, AfterRepetition, AfterRelease, AfterGrowth, Gave, Demand2}
+use Rattle.calls.proofs.Checks.{Sound, first-of-sound, answer-is-first, validity-numbered, not-applied, rest-zero, height-passed}
+use Rattle.calls.proofs.Checks.{length-passed}
 use Rattle.calls.proofs.OneKind.{grants-do-not-release, grants-do-not-grow, releases-do-not-grow, one-level-asked, one-level-grown, at-most-7}
+use Rattle.calls.proofs.OneKind.{entered-grant}
 use Rattle.calls.proofs.Room.{count-one-more}
-use Rattle.calls.proofs.Given.{above-zero}
+use Rattle.calls.proofs.Given.{above-zero, step-refuses}
+use Rattle.calls.proofs.Repeats.{gave-none, gave-by-nodes}
 use Rattle.calls.proofs.Kept.{Kept}
 use Rattle.calls.proofs.Struck.{node-after-set, node-beside-set}
 use Rattle.calls.proofs.Placing.{Coming, new-sizes, coming-movable, coming-one-more, coming-newcomer, coming-others, coming-occupies}
@@ -45,14 +50,12 @@ use Rattle.calls.proofs.Placing.{coming-in-order}
 use Rattle.calls.proofs.Releasing.{release-movable, release-in-order, release-occupies, counts-before, level-in-fewer, fewer-counts-fit}
 use Rattle.calls.proofs.Releasing.{fewer-sizes}
 use Rattle.calls.proofs.Same.{same-level-unchanged}
-use Rattle.calls.proofs.Cases.{both-zero, Granted, Released, Grown, Case, by-grant, by-release, by-growth, by-refusal, case}
-use Rattle.calls.proofs.Box.{of-grant, of-growth, report}
+use Rattle.calls.proofs.Answers.{holder-repeats}
+use Rattle.calls.proofs.Cases.{both-zero, Granted, Repeated, Released, Grown}
+use Rattle.calls.proofs.Cases.{Case, by-grant, by-repetition, by-release, by-growth, by-refusal, case}
+use Rattle.calls.proofs.Box.{of-grant, of-growth, report, kept-by-call}
 
--- the book that a table in order gives
-abbrev pub bookOf : ℕ → List ℕ → Book
-bookOf h T t = cond (eqb (nodeAt T t) 0) none (some (level h (nodeAt T t)))
-
-pub kept-of-order : (h : ℕ) (T : List ℕ) → h ≤ 12 → length T ≡ 4096 → InOrder h T → Kept h T (bookOf h T)
+pub kept-of-order : (h : ℕ) (T : List ℕ) → h ≤ 12 → length T ≡ 4096 → InOrder h T → Kept h T (inTable h T)
 kept-of-order h T q e o = record { height = q; entries = e; in-order = o; agrees = λ t. go t (eqb (nodeAt T t) 0) refl }
   where
     go : (t : ℕ) (b : Bool) → eqb (nodeAt T t) 0 ≡ b → Agrees h (cond b none (some (level h (nodeAt T t)))) (nodeAt T t)
@@ -73,6 +76,12 @@ sound-if-accepted h T c e =
       entries = length-passed T (validity h c ++ table-on) z₂;
       in-order = not-false (in-order? h T) (not-applied 7 (not (in-order? h T)) (holdings h T c) (omega arith) z₇);
     }
+
+-- and 3 to 6
+valid-if-accepted : (h : ℕ) (T : List ℕ) (c : Call) → step h T c .answer ≡ 0 → first (validity h c) ≡ 0
+valid-if-accepted h T c e =
+    let z = sym (first-of-sound h T c (sound-if-accepted h T c e)) ∙ sym (answer-is-first h T c) ∙ e in
+    both-zero (validity h c) (holdings h T c) (validity-numbered h c) z .0
 
 module _ {h : ℕ} {N : Nodes} {T₁ : List ℕ} (M : Movable h N T₁) (T : List ℕ) (t : ℕ) (out : nodeAt T₁ t ≡ 0)
     (before : (u : ℕ) → ¬ (u ≡ t) → nodeAt T₁ u ≡ nodeAt T u) (o : Outcome)
@@ -167,12 +176,21 @@ module _ (h : ℕ) (T : List ℕ) (c : Call) (e : step h T c .answer ≡ 0) wher
   the-sound : Sound h T
   the-sound = sound-if-accepted h T c e
 
-  pub the-kept : Kept h T (bookOf h T)
+  pub the-kept : Kept h T (inTable h T)
   the-kept =
       kept-of-order h T (the-sound .height) (the-sound .entries) (in-order-iff h T (the-sound .height) .0 (the-sound .in-order))
 
+  -- the table afterwards is in order too, so that both say whether the call gave a block
+  pub given-by-nodes : Gave h T c ↔ ((nodeAt T (tenantOf c) ≡ 0) × (0 < nodeAt (step h T c .table) (tenantOf c)))
+  given-by-nodes =
+      let t = tenantOf c in
+      let T′ = step h T c .table in
+      let K = kept-by-call h T (inTable h T) the-kept c in
+      let after = kept-of-order h T′ (K .height) (K .entries) (K .in-order) in
+      gave-by-nodes h (inTable h T t) (inTable h T′ t) (nodeAt T t) (nodeAt T′ t) (the-kept .agrees t) (after .agrees t)
+
   few-moves : length (step h T c .moves) ≤ 7
-  few-moves = omega (arith, report h T (bookOf h T) the-kept c .few, at-most-7 c)
+  few-moves = omega (arith, report h T (inTable h T) the-kept c .few, at-most-7 c)
 
   -- one that comes onto level l of S, which is T or T with its entry struck out
   module _ {l : ℕ} {S cs : List ℕ} (C : Coming h T (tenantOf c) l S cs)
@@ -202,7 +220,7 @@ module _ (h : ℕ) (T : List ℕ) (c : Call) (e : step h T c .answer ≡ 0) wher
 
   after-grant : (l : ℕ) → Granted h T c l → AfterGrant h T (tenantOf c) l (step h T c)
   after-grant l g =
-      let C = of-grant h T (bookOf h T) the-kept c l g in
+      let C = of-grant h T (inTable h T) the-kept c l g in
       rw (g .outcome) (record {
         settled = came-settled C (g .outcome);
         sized = came-sized C (g .outcome);
@@ -210,31 +228,38 @@ module _ (h : ℕ) (T : List ℕ) (c : Call) (e : step h T c .answer ≡ 0) wher
         placed = came-placed C (g .outcome);
       })
 
+  after-repetition : (l : ℕ) → Repeated h T c l → AfterRepetition h T (tenantOf c) l (step h T c)
+  after-repetition l r = record {
+    had-one = r .holds;
+    on-level = r .same;
+    unchanged = rw (r .outcome) (record { answer = refl; node = refl; moves = refl; table = refl });
+  }
+
   -- without t's block there is one fewer at its level
   struck-sized : 0 < nodeAt T (tenantOf c) → tenantOf c < 4096
       → (m : ℕ) → getD (countsBut h T (tenantOf c)) m 0 + one-if (eqb m (level h (nodeAt T (tenantOf c)))) ≡ sizes h (occupied T) m
   struck-sized holds q m =
       let t = tenantOf c in
       let x = level h (nodeAt T t) in
-      sym (count-one-more (countsBut h T t) x (level-in-fewer h T (bookOf h T) the-kept t q holds) m)
-      ∙ ap (λ (cs : List ℕ). getD cs m 0) (counts-before h T (bookOf h T) the-kept t q holds)
+      sym (count-one-more (countsBut h T t) x (level-in-fewer h T (inTable h T) the-kept t q holds) m)
+      ∙ ap (λ (cs : List ℕ). getD cs m 0) (counts-before h T (inTable h T) the-kept t q holds)
       ∙ sym (in-order-counts h T (the-kept .height) (the-kept .in-order) m)
 
   after-growth : (l : ℕ) → Grown h T c l → AfterGrowth h T (tenantOf c) l (step h T c)
   after-growth l g =
-      let C = of-growth h T (bookOf h T) the-kept c l g in
+      let C = of-growth h T (inTable h T) the-kept c l g in
       rw (g .outcome) (record {
         settled = came-settled C (g .outcome);
         sized = λ m. omega (arith, came-sized C (g .outcome) m, C .standing .sized m, struck-sized (g .holds) (g .tenant) m);
         had-one = g .holds;
         placed = came-placed C (g .outcome);
-        same-level = λ same. same-level-unchanged h T (bookOf h T) the-kept (tenantOf c) (g .tenant) (g .holds) l same C;
+        same-level = λ same. same-level-unchanged h T (inTable h T) the-kept (tenantOf c) (g .tenant) (g .holds) l same C;
       })
 
   after-release : Released h T c → AfterRelease h T (tenantOf c) (step h T c)
   after-release r =
       let t = tenantOf c in
-      let B = bookOf h T in
+      let B = inTable h T in
       let K = the-kept in
       let M = release-movable h T B K t (r .tenant) (r .holds) in
       let order = release-in-order h T B K t (r .tenant) (r .holds) in
@@ -256,31 +281,100 @@ module _ (h : ℕ) (T : List ℕ) (c : Call) (e : step h T c .answer ≡ 0) wher
             (fewer-sizes h T B K t (r .tenant) (r .holds)));
       })
 
+-- a refused call gives nothing
+accepted-if-gave : (h : ℕ) (T : List ℕ) (c : Call) → Gave h T c → step h T c .answer ≡ 0
+accepted-if-gave h T c gave = go (ℕ-discrete (step h T c .answer) 0)
+  where
+    entry : List ℕ → Option ℕ
+    entry S = inTable h S (tenantOf c)
+
+    go : Dec (step h T c .answer ≡ 0) → step h T c .answer ≡ 0
+    go (yes e) = e
+    go (no ne) =
+        let same = ap (λ (o : Outcome). gave-block (entry T) (entry (o .table))) (step-refuses h T c ne) in
+        absurd (false≢true (sym (same ∙ gave-none (entry T)) ∙ gave))
+
 pub demand-2 : (h : ℕ) (T : List ℕ) (c : Call) → Demand2 h T c
 demand-2 h T c = record {
-  grant = λ l a e. granted-by l a e (case h T (sound-if-accepted h T c e) c);
-  release = λ r e. released-by r e (case h T (sound-if-accepted h T c e) c);
-  growth = λ l g e. grown-by l g e (case h T (sound-if-accepted h T c e) c);
+  grant = λ l a g. granted-by l a (given g .0) (given g .1) (cased (given g .0));
+  repetition = λ l a e not-given. repeated-by l a e not-given (cased e);
+  gives = λ g. (given g .0, given-by (given g .0) (given g .1) (cased (given g .0)));
+  again = λ l a e. again-by l a e (names-its-node l a e (cased e));
+  release = λ r e. released-by r e (cased e);
+  growth = λ l g e. grown-by l g e (cased e);
 }
   where
+    cased : step h T c .answer ≡ 0 → Case h T c
+    cased e = case h T (sound-if-accepted h T c e) c
+
+    -- an accepted call, to one that had nothing
+    given : Gave h T c → (step h T c .answer ≡ 0) × (nodeAt T (tenantOf c) ≡ 0)
+    given g = let e = accepted-if-gave h T c g in (e, given-by-nodes h T c e .0 g .0)
+
+    held-before : 0 < nodeAt T (tenantOf c) → nodeAt T (tenantOf c) ≡ 0 → ⊥
+    held-before p z = omega arith
+
     refused-not : (n : ℕ) → step h T c .answer ≡ 0 → step h T c ≡ refused (suc n) T → ⊥
     refused-not n e o = omega (arith, e, ap (λ (x : Outcome). x .answer) o)
 
-    granted-by : (l : ℕ) → Asks h c l → step h T c .answer ≡ 0 → Case h T c → AfterGrant h T (tenantOf c) l (step h T c)
-    granted-by l a e (by-grant k g) =
+    granted-by : (l : ℕ) → Asks h c l → step h T c .answer ≡ 0 → nodeAt T (tenantOf c) ≡ 0 → Case h T c
+        → AfterGrant h T (tenantOf c) l (step h T c)
+    granted-by l a e z (by-grant k g) =
         subst (λ (j : ℕ). AfterGrant h T (tenantOf c) j (step h T c)) (one-level-asked h c k l (g .asks) a) (after-grant h T c e k g)
-    granted-by l a e (by-release r) = absurd (grants-do-not-release h c l a (r .asks))
-    granted-by l a e (by-growth k g) = absurd (grants-do-not-grow h c l k a (g .asks))
-    granted-by l a e (by-refusal n o) = absurd (refused-not n e o)
+    granted-by l a e z (by-repetition k r) = absurd (held-before (r .holds) z)
+    granted-by l a e z (by-release r) = absurd (held-before (r .holds) z)
+    granted-by l a e z (by-growth k g) = absurd (held-before (g .holds) z)
+    granted-by l a e z (by-refusal n o) = absurd (refused-not n e o)
+
+    repeated-by : (l : ℕ) → Asks h c l → step h T c .answer ≡ 0 → ¬ Gave h T c → Case h T c → AfterRepetition h T (tenantOf c) l (step h T c)
+    repeated-by l a e not-given (by-grant k g) =
+        let p = after-grant h T c e k g .placed in
+        absurd (not-given (given-by-nodes h T c e .1 (g .nothing, rw (p .newcomer) (p .a-node))))
+    repeated-by l a e not-given (by-repetition k r) =
+        subst (λ (j : ℕ). AfterRepetition h T (tenantOf c) j (step h T c)) (one-level-asked h c k l (r .asks) a) (after-repetition h T c e k r)
+    repeated-by l a e not-given (by-release r) = absurd (grants-do-not-release h c l a (r .asks))
+    repeated-by l a e not-given (by-growth k g) = absurd (grants-do-not-grow h c l k a (g .asks))
+    repeated-by l a e not-given (by-refusal n o) = absurd (refused-not n e o)
+
+    given-by : step h T c .answer ≡ 0 → nodeAt T (tenantOf c) ≡ 0 → Case h T c → (l : ℕ) × Asks h c l
+    given-by e z (by-grant k g) = (k, g .asks)
+    given-by e z (by-repetition k r) = (k, r .asks)
+    given-by e z (by-release r) = absurd (held-before (r .holds) z)
+    given-by e z (by-growth k g) = absurd (held-before (g .holds) z)
+    given-by e z (by-refusal n o) = absurd (refused-not n e o)
+
+    -- the table has the node that a grant names
+    names-its-node : (l : ℕ) → Asks h c l → step h T c .answer ≡ 0 → Case h T c → nodeAt (step h T c .table) (tenantOf c) ≡ step h T c .node
+    names-its-node l a e (by-grant k g) = after-grant h T c e k g .placed .newcomer
+    names-its-node l a e (by-repetition k r) =
+        ap (λ (o : Outcome). nodeAt (o .table) (tenantOf c)) (r .outcome) ∙ sym (ap (λ (o : Outcome). o .node) (r .outcome))
+    names-its-node l a e (by-release r) = absurd (grants-do-not-release h c l a (r .asks))
+    names-its-node l a e (by-growth k g) = absurd (grants-do-not-grow h c l k a (g .asks))
+    names-its-node l a e (by-refusal n o) = absurd (refused-not n e o)
+
+    -- and the book has its level, so that the same grant is a repeated one
+    again-by : (l : ℕ) → Asks h c l → step h T c .answer ≡ 0 → nodeAt (step h T c .table) (tenantOf c) ≡ step h T c .node
+        → step h (step h T c .table) c ≡ repeated (step h T c .table) (step h T c .node)
+    again-by l a e same =
+        let t = tenantOf c in
+        let T′ = step h T c .table in
+        let B = inTable h T in
+        let written : enter h c (step h T c .answer) B t ≡ some l =
+        ap (λ (n : ℕ). enter h c n B t) e ∙ ap (λ (b : Book). b t) (entered-grant h c l a B) ∙ rw (eq-eqb t t refl) in
+        let u = holder-repeats h T′ (enter h c (step h T c .answer) B) (kept-by-call h T B (the-kept h T c e) c) c l a
+        (valid-if-accepted h T c e) written in
+        λ i. record { answer = u .answer i; node = (u .node ∙ same) i; moves = u .moves i; table = u .table i }
 
     released-by : Releases c → step h T c .answer ≡ 0 → Case h T c → AfterRelease h T (tenantOf c) (step h T c)
     released-by r e (by-grant k g) = absurd (grants-do-not-release h c k (g .asks) r)
+    released-by r e (by-repetition k g) = absurd (grants-do-not-release h c k (g .asks) r)
     released-by r e (by-release d) = after-release h T c e d
     released-by r e (by-growth k g) = absurd (releases-do-not-grow h c k r (g .asks))
     released-by r e (by-refusal n o) = absurd (refused-not n e o)
 
     grown-by : (l : ℕ) → Grows c l → step h T c .answer ≡ 0 → Case h T c → AfterGrowth h T (tenantOf c) l (step h T c)
     grown-by l g e (by-grant k d) = absurd (grants-do-not-grow h c k l (d .asks) g)
+    grown-by l g e (by-repetition k d) = absurd (grants-do-not-grow h c k l (d .asks) g)
     grown-by l g e (by-release d) = absurd (releases-do-not-grow h c l (d .asks) g)
     grown-by l g e (by-growth k d) =
         subst (λ (j : ℕ). AfterGrowth h T (tenantOf c) j (step h T c)) (one-level-grown h c k l (d .asks) g) (after-growth h T c e k d)

@@ -17,8 +17,8 @@ use Rattle.layout.specs.Change.{oneMore}
 use Rattle.table.specs.Table.{nodeAt, countsOf}
 use Rattle.table.proofs.Order.{in-order-fits}
 use Rattle.calls.specs.Call.{Call, tenantOf}
-use Rattle.calls.specs.Step.{Outcome, refused, first, countsBut, grant-holdings, holdings, step}
-use Rattle.calls.specs.History.{Book, write, at-level, held}
+use Rattle.calls.specs.Step.{Outcome, refused, first, countsBut, repeats, grant-holdings, holdings, step}
+use Rattle.calls.specs.History.{Book, write, enter, at-level, held}
 use Rattle.calls.specs.Demand.{Valid, Asks, by-level, by-pages, Releases, releases, Grows, grows, Unchanged}
 use Rattle.calls.specs.Demand.{withOne, NoLegalSet, NoPlacement, NoExchange}
 use Rattle.calls.proofs.Checks.{answer-valid, valid-tenant, valid-size, asked-in-height, grown-in-height}
@@ -26,9 +26,10 @@ use Rattle.calls.proofs.Room.{pages-one-more, count-one-more}
 use Rattle.calls.proofs.Kept.{Kept, sound, held-is-count, level-in-counts, no-room-no-set, room-some-set}
 use Rattle.calls.proofs.Exchanged.{held-exchanged}
 use Rattle.calls.proofs.Releasing.{counts-before, level-in-fewer, growth-coming}
-use Rattle.calls.proofs.Cases.{Case, by-grant, by-release, by-growth, by-refusal, case}
-use Rattle.calls.proofs.OneKind.{grants-do-not-grow, releases-do-not-grow, one-level-grown}
+use Rattle.calls.proofs.Cases.{Case, by-grant, by-repetition, by-release, by-growth, by-refusal, case}
+use Rattle.calls.proofs.OneKind.{entered-grant, grants-do-not-release, grants-do-not-grow, releases-do-not-grow, one-level-grown}
 use Rattle.calls.proofs.Same.{same-level-unchanged}
+use Rattle.calls.proofs.Repeats.{repeats-if-holder, never-repeats}
 
 asked-holdings : (h : ℕ) (T : List ℕ) (c : Call) (l : ℕ) → Asks h c l → holdings h T c ≡ grant-holdings h T (tenantOf c) l
 asked-holdings h T c l by-level = refl
@@ -51,11 +52,58 @@ module _ (h : ℕ) (T : List ℕ) (B : Book) (K : Kept h T B) where
   has-nothing : (t : ℕ) → B t ≡ none → nodeAt T t ≡ 0
   has-nothing t e = rw e at (K .agrees t)
 
-  pub holder-asks : (c : Call) (l k : ℕ) → Asks h c l → Valid h c → B (tenantOf c) ≡ some k → step h T c .answer ≡ 8
-  holder-asks c l k a v e =
+  -- the level that the book has is that of the tenant's node
+  level-in-book : (t k : ℕ) → B t ≡ some k → level h (nodeAt T t) ≡ k
+  level-in-book t k e = rw e at (K .agrees t) .1
+
+  -- so a grant is a repeated one exactly if it asks for that level
+  repeats-by-book : (t l k : ℕ) → B t ≡ some k → repeats h T t l ≡ eqb k l
+  repeats-by-book t l k e = repeats-if-holder h T t l (has-node t k e) ∙ ap (λ (x : ℕ). eqb x l) (level-in-book t k e)
+
+  pub holder-asks : (c : Call) (l k : ℕ) → Asks h c l → Valid h c → B (tenantOf c) ≡ some k → ¬ (k ≡ l) → step h T c .answer ≡ 8
+  holder-asks c l k a v e other =
+      let t = tenantOf c in
       answer-valid h T (sound h T B K) c v
       ∙ ap first (asked-holdings h T c l a)
-      ∙ rw (lt-ltb 0 (nodeAt T (tenantOf c)) (has-node (tenantOf c) k e))
+      ∙ rw (repeats-by-book t l k e, ne-eqb k l other, lt-ltb 0 (nodeAt T t) (has-node t k e))
+
+  pub holder-repeats : (c : Call) (l : ℕ) → Asks h c l → Valid h c → B (tenantOf c) ≡ some l → Unchanged (tenantOf c) T (step h T c)
+  holder-repeats c l a v e = go (case h T (sound h T B K) c)
+    where
+      t : ℕ
+      t = tenantOf c
+
+      done : step h T c .answer ≡ 0
+      done =
+          answer-valid h T (sound h T B K) c v
+          ∙ ap first (asked-holdings h T c l a)
+          ∙ rw (repeats-by-book t l l e, eq-eqb l l refl)
+
+      go : Case h T c → Unchanged t T (step h T c)
+      go (by-grant k g) = absurd (not-zero (has-node t l e) (g .nothing))
+      go (by-repetition k r) = rw (r .outcome) (record { answer = refl; node = refl; moves = refl; table = refl })
+      go (by-release r) = absurd (grants-do-not-release h c l a (r .asks))
+      go (by-growth k g) = absurd (grants-do-not-grow h c l k a (g .asks))
+      go (by-refusal n o) = absurd (omega (arith, done, ap (λ (x : Outcome). x .answer) o))
+
+  -- a holder's level is written down again, or nothing is
+  pub book-stays : (c : Call) (l k : ℕ) → Asks h c l → Valid h c → B (tenantOf c) ≡ some k → (u : ℕ) → enter h c (step h T c .answer) B u ≡ B u
+  book-stays c l k a v e u = go (ℕ-discrete k l)
+    where
+      t : ℕ
+      t = tenantOf c
+
+      written : B t ≡ some l → Dec (u ≡ t) → write t (some l) B u ≡ B u
+      written same (yes is) = rw (is, eq-eqb t t refl) (sym same)
+      written same (no is-not) = rw (ne-eqb u t is-not)
+
+      go : Dec (k ≡ l) → enter h c (step h T c .answer) B u ≡ B u
+      go (yes is) =
+          let same : B t ≡ some l = e ∙ ap some is in
+          ap (λ (n : ℕ). enter h c n B u) (holder-repeats c l a v same .answer)
+          ∙ ap (λ (b : Book). b u) (entered-grant h c l a B)
+          ∙ written same (ℕ-discrete u t)
+      go (no is-not) = ap (λ (n : ℕ). enter h c n B u) (holder-asks c l k a v e is-not)
 
   -- 10 if the pages after the call are too many, and 0 otherwise: so 10 exactly when no legal set has their sizes
   by-pages-after : (n : ℕ) (cs : List ℕ) (sized : ℕ → ℕ) → ((m : ℕ) → sized m ≡ getD cs m 0) → n ≡ cond (ltb (2 ^ h) (pages cs)) 10 0
@@ -76,7 +124,7 @@ module _ (h : ℕ) (T : List ℕ) (B : Book) (K : Kept h T B) where
       by-pages-after (step h T c .answer) (oneMore (countsOf h T) l) (withOne B l) sized
       (answer-valid h T (sound h T B K) c v
       ∙ ap first (asked-holdings h T c l a)
-      ∙ rw (has-nothing (tenantOf c) e, pages-one-more (countsOf h T) l in-counts))
+      ∙ rw (never-repeats h T (tenantOf c) l (has-nothing (tenantOf c) e), has-nothing (tenantOf c) e, pages-one-more (countsOf h T) l in-counts))
     where
       in-counts : l < length (countsOf h T)
       in-counts = level-in-counts h T B K l (asked-in-height h c l a (valid-size h c v))
@@ -93,10 +141,6 @@ module _ (h : ℕ) (T : List ℕ) (B : Book) (K : Kept h T B) where
 
   pub other-grows : (c : Call) (l : ℕ) → Grows c l → Valid h c → B (tenantOf c) ≡ none → step h T c .answer ≡ 9
   other-grows c l (grows {t = t} {l = k} {m = m}) v e = answer-valid h T (sound h T B K) c v ∙ rw (has-nothing t e)
-
-  -- the level that the book has is that of the tenant's node
-  level-in-book : (t k : ℕ) → B t ≡ some k → level h (nodeAt T t) ≡ k
-  level-in-book t k e = rw e at (K .agrees t) .1
 
   -- the sizes with the tenant's level exchanged are the counts with one fewer and one more
   exchanged-sizes : (t l k : ℕ) → t < 4096 → l ≤ h → B t ≡ some k → (m : ℕ) → held (write t (some l) B) m ≡ getD (oneMore (countsBut h T t) l) m 0
@@ -155,6 +199,7 @@ module _ (h : ℕ) (T : List ℕ) (B : Book) (K : Kept h T B) where
 
       go : Case h T c → Unchanged (tenantOf c) T (step h T c)
       go (by-grant k d) = absurd (grants-do-not-grow h c k l (d .asks) g)
+      go (by-repetition k d) = absurd (grants-do-not-grow h c k l (d .asks) g)
       go (by-release d) = absurd (releases-do-not-grow h c l (d .asks) g)
       go (by-growth k d) =
           let same = one-level-grown h c k l (d .asks) g in

@@ -1,4 +1,4 @@
--- The ways that a call on a sound table can go: refused, granted, released, grown; with what its checks have shown.
+-- The ways that a call on a sound table can go: refused, granted, repeated, released, grown; with what its checks have shown.
 use mathlib.Core.Path.{_≡_, refl, sym, ap, _∙_}
 use mathlib.Core.Bool.{Bool, true, false, cond}
 use mathlib.Core.List.{List, [], _∷_, _++_}
@@ -7,18 +7,20 @@ use native.Mathlib.Omega.{arith}
 use borrow.Author.Tests.{ltb-false, eqb-false}
 use lib.Dec.{eqb, ltb}
 use lib.ListN.{set}
+use Rattle.tree.specs.Node.{level}
 use Rattle.layout.specs.Layout.{pages}
 use Rattle.layout.specs.Set.{layoutSet}
 use Rattle.layout.specs.Change.{oneMore}
 use Rattle.table.specs.Table.{nodeAt, countsOf}
 use Rattle.sizes.specs.Level.{levelFor}
 use Rattle.calls.specs.Call.{Call, grant-level, grant-pages, release, grow, tenantOf}
-use Rattle.calls.specs.Step.{refused, Check, check, first, validity, countsBut, grant-holdings, holdings, checks}
-use Rattle.calls.specs.Step.{granted, released, accepted, unless, step}
+use Rattle.calls.specs.Step.{refused, Check, check, first, validity, countsBut, repeats, block-checks, grant-holdings, holdings, checks}
+use Rattle.calls.specs.Step.{granted, repeated, blockFor, released, accepted, unless, step}
 use Rattle.calls.specs.Demand.{Asks, by-level, by-pages, Releases, releases, Grows, grows}
 use Rattle.calls.proofs.Checks.{Sound, first-of-sound, Numbered, validity-numbered, not-applied, rest-zero, valid-tenant, valid-size}
 use Rattle.calls.proofs.Checks.{asked-in-height, grown-in-height}
 use Rattle.calls.proofs.Given.{above-zero}
+use Rattle.calls.proofs.Repeats.{repeats-holds}
 
 pub record Granted (h : ℕ) (T : List ℕ) (c : Call) (l : ℕ) : Type 0 where
   pub asks : Asks h c l
@@ -27,6 +29,13 @@ pub record Granted (h : ℕ) (T : List ℕ) (c : Call) (l : ℕ) : Type 0 where
   pub in-height : l ≤ h
   pub fits : pages (countsOf h T) + 2 ^ l ≤ 2 ^ h
   pub outcome : step h T c ≡ granted h T (layoutSet h (oneMore (countsOf h T) l)) (tenantOf c) l
+
+pub record Repeated (h : ℕ) (T : List ℕ) (c : Call) (l : ℕ) : Type 0 where
+  pub asks : Asks h c l
+  pub tenant : tenantOf c < 4096
+  pub holds : 0 < nodeAt T (tenantOf c)
+  pub same : level h (nodeAt T (tenantOf c)) ≡ l
+  pub outcome : step h T c ≡ repeated T (nodeAt T (tenantOf c))
 
 pub record Released (h : ℕ) (T : List ℕ) (c : Call) : Type 0 where
   pub asks : Releases c
@@ -44,6 +53,7 @@ pub record Grown (h : ℕ) (T : List ℕ) (c : Call) (l : ℕ) : Type 0 where
 
 pub data Case (h : ℕ) (T : List ℕ) (c : Call) : Type 0 where
   by-grant : (l : ℕ) → Granted h T c l → Case h T c
+  by-repetition : (l : ℕ) → Repeated h T c l → Case h T c
   by-release : Released h T c → Case h T c
   by-growth : (l : ℕ) → Grown h T c l → Case h T c
   by-refusal : (n : ℕ) → step h T c ≡ refused (suc n) T → Case h T c
@@ -71,16 +81,26 @@ module _ (h : ℕ) (T : List ℕ) (s : Sound h T) where
       ltb-false (2 ^ h) (held + 2 ^ l) (not-applied 10 (ltb (2 ^ h) (held + 2 ^ l)) [] (omega arith) r)
 
   grant-case : (c : Call) (l : ℕ) → Asks h c l → first (validity h c) ≡ 0 → first (grant-holdings h T (tenantOf c) l) ≡ 0
-      → step h T c ≡ granted h T (layoutSet h (oneMore (countsOf h T) l)) (tenantOf c) l → Case h T c
-  grant-case c l a v e o =
-      by-grant l (record {
-        asks = a;
-        tenant = valid-tenant h c v;
-        nothing = holds-nothing (tenantOf c) (check 10 (ltb (2 ^ h) (pages (countsOf h T) + 2 ^ l)) ∷ []) e;
-        in-height = asked-in-height h c l a (valid-size h c v);
-        fits = pages-fit (check 8 (ltb 0 (nodeAt T (tenantOf c)))) (pages (countsOf h T)) l (omega arith) e;
-        outcome = o;
-      })
+      → step h T c ≡ blockFor h T (tenantOf c) l → Case h T c
+  grant-case c l a v = go (repeats h T t l) refl
+    where
+      t : ℕ
+      t = tenantOf c
+
+      go : (b : Bool) → repeats h T t l ≡ b → first (cond b [] (block-checks h T t l)) ≡ 0
+          → step h T c ≡ cond b (repeated T (nodeAt T t)) (granted h T (layoutSet h (oneMore (countsOf h T) l)) t l) → Case h T c
+      go true r e o =
+          let held = repeats-holds h T t l r in
+          by-repetition l (record { asks = a; tenant = valid-tenant h c v; holds = held .0; same = held .1; outcome = o })
+      go false r e o =
+          by-grant l (record {
+            asks = a;
+            tenant = valid-tenant h c v;
+            nothing = holds-nothing t (check 10 (ltb (2 ^ h) (pages (countsOf h T) + 2 ^ l)) ∷ []) e;
+            in-height = asked-in-height h c l a (valid-size h c v);
+            fits = pages-fit (check 8 (ltb 0 (nodeAt T t))) (pages (countsOf h T)) l (omega arith) e;
+            outcome = o;
+          })
 
   accepted-case : (c : Call) → first (validity h c) ≡ 0 → first (holdings h T c) ≡ 0 → step h T c ≡ accepted h T c → Case h T c
   accepted-case (grant-level t l m) v e o = grant-case (grant-level t l m) l by-level v e o

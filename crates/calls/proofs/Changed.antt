@@ -31,6 +31,7 @@ use Rattle.table.proofs.PlanOf.{moves-in-plan-of, count-in-plan-of, made-of-its
 use Rattle.table.proofs.PlanLaws.{Replan, plannable, plan-of-table, replan}
 use Rattle.carrying.specs.Order.{inOrder, Orderable}
 use Rattle.calls.specs.Step.{countsBut, granted, released}
+use Rattle.calls.specs.History.{inTable}
 use Rattle.calls.specs.Value.{Gives, TenantsIn}
 use Rattle.calls.specs.declared.Answer.the-variants.{Done}
 use Rattle.calls.specs.Changes.{Ready, others, Target, given-up, placed, Resettled}
@@ -40,7 +41,7 @@ use Rattle.calls.proofs.Struck.{node-after-set}
 use Rattle.calls.proofs.Placing.{Coming, new-counts-fit, coming-movable, grant-coming}
 use Rattle.calls.proofs.Releasing.{release-movable, counts-before, level-in-fewer, fewer-counts-fit, growth-coming}
 use Rattle.calls.proofs.Reported.{grant-moves-few, release-moves-few, growth-moves-few}
-use Rattle.calls.proofs.Accepted.{bookOf, kept-of-order}
+use Rattle.calls.proofs.Accepted.{kept-of-order}
 use Rattle.calls.proofs.Changing.{others-are-all, nothing-to-strike, others-of-holder}
 
 -- a reserve has at most 4,096 pages
@@ -98,7 +99,7 @@ module _ (h : ℕ) (T : List ℕ) (t : ℕ) (ready : Ready h T t) (seen : in-ord
   order : InOrder h T
   order = in-order-iff h T (ready .height) .0 seen
 
-  kept : Kept h T (bookOf h T)
+  kept : Kept h T (inTable h T)
   kept = kept-of-order h T (ready .height) (ready .entries) order
 
   abbrev struck : List ℕ
@@ -113,7 +114,7 @@ module _ (h : ℕ) (T : List ℕ) (t : ℕ) (ready : Ready h T t) (seen : in-ord
           rw (others-are-all h T t z, nothing-to-strike h T t z) (grant-coming kept t l (ready .tenant) z low (rw (← others-are-all h T t z) fits))
       go (no nz) =
           let same = others-of-holder h T t nz in
-          rw same (growth-coming h T (bookOf h T) kept t (ready .tenant) (above-zero (nodeAt T t) nz) l low (rw (← same) fits))
+          rw same (growth-coming h T (inTable h T) kept t (ready .tenant) (above-zero (nodeAt T t) nz) l low (rw (← same) fits))
 
   -- few of the others have to move for it
   coming-few : (l : ℕ) → l ≤ h → Movable h (layoutSet h (oneMore (others h T t) l)) struck
@@ -121,7 +122,7 @@ module _ (h : ℕ) (T : List ℕ) (t : ℕ) (ready : Ready h T t) (seen : in-ord
   coming-few l low = go (ℕ-discrete (nodeAt T t) 0)
     where
       in-counts : l < length (countsOf h T)
-      in-counts = level-in-counts h T (bookOf h T) kept l low
+      in-counts = level-in-counts h T (inTable h T) kept l low
 
       go : Dec (nodeAt T t ≡ 0) → Movable h (layoutSet h (oneMore (others h T t) l)) struck
           → length (movesOf h (layoutSet h (oneMore (others h T t) l)) struck) ≤ 7
@@ -133,8 +134,8 @@ module _ (h : ℕ) (T : List ℕ) (t : ℕ) (ready : Ready h T t) (seen : in-ord
           let x = level h (nodeAt T t) in
           let fewer = countsBut h T t in
           rw (others-of-holder h T t nz)
-          (growth-moves-few h T t x fewer (ready .height) order (level-in-fewer h T (bookOf h T) kept t (ready .tenant) holds)
-          (counts-before h T (bookOf h T) kept t (ready .tenant) holds) l (rw (length-set (countsOf h T) x _) in-counts))
+          (growth-moves-few h T t x fewer (ready .height) order (level-in-fewer h T (inTable h T) kept t (ready .tenant) holds)
+          (counts-before h T (inTable h T) kept t (ready .tenant) holds) l (rw (length-set (countsOf h T) x _) in-counts))
 
   -- what is planned for: the others can move, few of them have to, and the counts fit
   record CanSettle (ds : List ℕ) : Type 0 where
@@ -144,7 +145,7 @@ module _ (h : ℕ) (T : List ℕ) (t : ℕ) (ready : Ready h T t) (seen : in-ord
 
   can-settle : (ds : List ℕ) (x : ℕ) → Target h T t ds x → CanSettle ds
   can-settle ds x (given-up holds) =
-      let B = bookOf h T in
+      let B = inTable h T in
       let M = release-movable h T B kept t (ready .tenant) holds in
       let level-in = level-in-fewer h T B kept t (ready .tenant) holds in
       let before = counts-before h T B kept t (ready .tenant) holds in

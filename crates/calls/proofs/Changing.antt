@@ -1,11 +1,13 @@
 -- The ways that a call with valid arguments can go.
-use mathlib.Core.Path.{_≡_, sym, subst, ap, _∙_}
-use mathlib.Core.Bool.{true, false}
-use mathlib.Core.List.{List}
+use mathlib.Core.Path.{_≡_, refl, sym, subst, ap, _∙_}
+use mathlib.Core.Bool.{Bool, true, false, cond}
+use mathlib.Core.List.{List, [], _∷_}
 use Prim.Native.Nat.{ℕ, _+_, _^_, _≤_, _<_}
 use borrow.Author.Tests.{lt-ltb, le-ltb, eq-eqb, ne-eqb}
+use lib.Dec.{eqb, ltb}
 use lib.ListN.{set}
 use lib.Seq.{set-getD}
+use Rattle.tree.specs.Node.{level}
 use Rattle.layout.specs.Layout.{pages}
 use Rattle.layout.specs.Set.{layoutSet}
 use Rattle.layout.specs.Change.{oneMore}
@@ -13,8 +15,20 @@ use Rattle.table.specs.Table.{nodeAt, countsOf, in-order?}
 use Rattle.table.specs.Owners.{ownersOf}
 use Rattle.sizes.specs.Level.{levelFor}
 use Rattle.calls.specs.Call.{Call, grant-level, grant-pages, release, grow}
-use Rattle.calls.specs.Step.{countsBut, refused, granted, released}
-use Rattle.calls.specs.Changes.{Looked, without, others, placeOn, grantOn, releaseOn, growOn, changeOn}
+use Rattle.calls.specs.Step.{check, first, countsBut, refused, granted, repeated, released, unless}
+use Rattle.calls.specs.Changes.{Looked, without, others, placeOn, toHolder, grantOn, releaseOn, growOn, changeOn}
+use Rattle.calls.proofs.Repeats.{repeats-if-holder, never-repeats}
+
+-- ---- a grant to one that holds node n
+
+module _ (h : ℕ) (T : List ℕ) (n l : ℕ) where
+  pub holder-of-level : level h n ≡ l → repeated T n ≡ toHolder h T n l
+  unfolding toHolder
+  holder-of-level e = rw (eq-eqb (level h n) l e)
+
+  pub holder-of-another : ¬ (level h n ≡ l) → refused 8 T ≡ toHolder h T n l
+  unfolding toHolder
+  holder-of-another ne = rw (ne-eqb (level h n) l ne)
 
 module _ (h : ℕ) (T : List ℕ) (t : ℕ) where
   -- ---- the others' counts
@@ -43,13 +57,19 @@ module _ (h : ℕ) (T : List ℕ) (t : ℕ) where
     unfolding placeOn
     place-with-room p = rw (le-ltb (2 ^ h) (pages (others h T t) + 2 ^ l) p)
 
-    pub grant-to-holder : 0 < nodeAt T t → refused 8 T ≡ grantOn h T t l
-    unfolding grantOn
-    grant-to-holder p = rw (lt-ltb 0 (nodeAt T t) p)
+    pub grant-to-holder : 0 < nodeAt T t → toHolder h T (nodeAt T t) l ≡ grantOn h T t l
+    unfolding toHolder grantOn
+    grant-to-holder p = rw (repeats-if-holder h T t l p, lt-ltb 0 (nodeAt T t) p) (go (eqb (level h (nodeAt T t)) l))
+      where
+        go : (b : Bool) → cond b (repeated T (nodeAt T t)) (refused 8 T)
+            ≡ unless (first (cond b [] (check 8 true ∷ check 10 (ltb (2 ^ h) (pages (countsOf h T) + 2 ^ l)) ∷ []))) T
+            (cond b (repeated T (nodeAt T t)) (granted h T (layoutSet h (oneMore (countsOf h T) l)) t l))
+        go true = refl
+        go false = refl
 
     pub grant-places : nodeAt T t ≡ 0 → placeOn h T t l ≡ grantOn h T t l
     unfolding placeOn grantOn
-    grant-places z = rw (others-are-all z, nothing-to-strike z, z)
+    grant-places z = rw (others-are-all z, nothing-to-strike z, never-repeats h T t l z, z)
 
     pub grow-of-nobody : nodeAt T t ≡ 0 → refused 9 T ≡ growOn h T t l
     unfolding growOn

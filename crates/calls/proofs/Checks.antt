@@ -16,6 +16,7 @@ use Rattle.calls.specs.Demand.{Asks, by-level, by-pages, Grows, grows}
 use Rattle.calls.specs.Value.{callOf}
 use Rattle.calls.specs.declared.Call.{Call as Arguments}
 use Rattle.calls.specs.declared.Call.the-variants.{GrantLevel, GrantPages, Release, Grow}
+use Rattle.calls.proofs.Given.{accepted-answer}
 
 -- on a table in order of 4,096 entries, at a height up to 12, only 3 to 6 and 8 to 10 can apply
 pub record Sound (h : ℕ) (T : List ℕ) : Type 0 where
@@ -68,14 +69,11 @@ validity-numbered h (grow t l m) = (omega arith, (omega arith, (omega arith, tt)
 -- a call answers the number of the first check that applies, or 0
 pub answer-is-first : (h : ℕ) (T : List ℕ) (c : Call) → step h T c .answer ≡ first (checks h T c)
 unfolding step
-answer-is-first h T c = go (first (checks h T c)) c
+answer-is-first h T c = go (first (checks h T c))
   where
-    go : (n : ℕ) (c : Call) → (unless n T (accepted h T c)) .answer ≡ n
-    go zero (grant-level t l m) = refl
-    go zero (grant-pages t p m) = refl
-    go zero (release t m) = refl
-    go zero (grow t l m) = refl
-    go (suc n) c = refl
+    go : (n : ℕ) → (unless n T (accepted h T c)) .answer ≡ n
+    go zero = accepted-answer h T c
+    go (suc n) = refl
 
 module _ (h : ℕ) (T : List ℕ) (s : Sound h T) where
   pub answer-not-valid : (c : Call) → ¬ (first (validity h c) ≡ 0) → step h T c .answer ≡ first (validity h c)

@@ -6,7 +6,8 @@ use native.Mathlib.Decide.{ℕ-discrete}
 use lib.ListN.{length}
 use Rattle.calls.specs.Call.{Call, leastEntries}
 use Rattle.calls.specs.Step.{step}
-use Rattle.calls.proofs.Accepted.{bookOf, the-kept}
+use Rattle.calls.specs.History.{inTable}
+use Rattle.calls.proofs.Accepted.{the-kept}
 use Rattle.calls.proofs.Box.{report}
 use Rattle.calls.proofs.Given.{step-refuses}
 
@@ -14,5 +15,5 @@ pub moves-few : (h : ℕ) (T : List ℕ) (c : Call) → length (step h T c .move
 moves-few h T c = go (ℕ-discrete (step h T c .answer) 0)
   where
     go : Dec (step h T c .answer ≡ 0) → length (step h T c .moves) ≤ leastEntries c
-    go (yes e) = report h T (bookOf h T) (the-kept h T c e) c .few
+    go (yes e) = report h T (inTable h T) (the-kept h T c e) c .few
     go (no ne) = rw (step-refuses h T c ne) zero-le

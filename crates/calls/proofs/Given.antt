@@ -4,12 +4,14 @@ use mathlib.Core.List.{List, []}
 use Prim.Native.Nat.{ℕ, zero, suc, _<_}
 use native.Mathlib.Omega.{arith}
 use Rattle.table.proofs.PlanOf.{moves-in-plan-of}
+use Rattle.sizes.specs.Level.{levelFor}
 use Rattle.calls.specs.Call.{Call, grant-level, grant-pages, release, grow}
 use Rattle.calls.specs.Step.{Outcome, refused, first, checks, reserve-checks, accepted, unless, step, open-reserve}
 use Rattle.calls.specs.Value.{numberOf, nodeIn, answerOf, Gives, answered, valueOf}
 use Rattle.calls.specs.declared.Answer.{Answer}
 use Rattle.calls.specs.declared.Answer.the-variants.{Refused}
 use Rattle.calls.specs.declared.Called.{Called}
+use Rattle.calls.proofs.Repeats.{block-answer}
 
 pub above-zero : (n : ℕ) → ¬ (n ≡ 0) → 0 < n
 above-zero n ne = omega arith
@@ -50,9 +52,9 @@ pub unless-refuses : (k : ℕ) (T : List ℕ) (o : Outcome) → o .answer ≡ 0 
 unless-refuses zero T o e ne = absurd (ne e)
 unless-refuses (suc k) T o e ne = refl
 
-accepted-answer : (h : ℕ) (T : List ℕ) (c : Call) → accepted h T c .answer ≡ 0
-accepted-answer h T (grant-level t l m) = refl
-accepted-answer h T (grant-pages t p m) = refl
+pub accepted-answer : (h : ℕ) (T : List ℕ) (c : Call) → accepted h T c .answer ≡ 0
+accepted-answer h T (grant-level t l m) = block-answer h T t l
+accepted-answer h T (grant-pages t p m) = block-answer h T t (levelFor h p)
 accepted-answer h T (release t m) = refl
 accepted-answer h T (grow t l m) = refl
 

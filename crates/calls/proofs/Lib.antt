@@ -7,6 +7,7 @@ pub mod Exchanged
 pub mod Placing
 pub mod OneKind
 pub mod Same
+pub mod Repeats
 pub mod Releasing
 pub mod Cases
 pub mod Reported

@@ -1,9 +1,11 @@
--- A call is of one kind, and asks for one level. And how many move entries each kind takes.
+-- A call is of one kind, and asks for one level. And how many move entries each kind takes, and what is written of it into the book.
 use mathlib.Core.Path.{_≡_, refl, sym, _∙_}
+use mathlib.Core.Option.{some, none}
 use Prim.Native.Nat.{ℕ, _≤_}
 use native.Mathlib.Omega.{arith}
 use Rattle.sizes.specs.Level.{levelFor}
-use Rattle.calls.specs.Call.{Call, grant-level, grant-pages, release, grow, leastEntries}
+use Rattle.calls.specs.Call.{Call, grant-level, grant-pages, release, grow, tenantOf, leastEntries}
+use Rattle.calls.specs.History.{Book, write, enter}
 use Rattle.calls.specs.Demand.{Asks, by-level, by-pages, Releases, releases, Grows, grows}
 
 -- 0 for a grant of either kind, 1 for a release, 2 for a growth
@@ -45,6 +47,17 @@ at-most-7 (grow t l m) = omega arith
 
 pub growth-takes-7 : (c : Call) (l : ℕ) → Grows c l → leastEntries c ≡ 7
 growth-takes-7 c l grows = refl
+
+-- what is written into the book of each kind
+pub entered-grant : (h : ℕ) (c : Call) (l : ℕ) → Asks h c l → (B : Book) → enter h c 0 B ≡ write (tenantOf c) (some l) B
+entered-grant h c l by-level B = refl
+entered-grant h c l by-pages B = refl
+
+pub entered-release : (h : ℕ) (c : Call) → Releases c → (B : Book) → enter h c 0 B ≡ write (tenantOf c) none B
+entered-release h c releases B = refl
+
+pub entered-growth : (h : ℕ) (c : Call) (l : ℕ) → Grows c l → (B : Book) → enter h c 0 B ≡ write (tenantOf c) (some l) B
+entered-growth h c l grows B = refl
 
 module _ (h : ℕ) (c : Call) where
   pub grants-do-not-release : (l : ℕ) → Asks h c l → ¬ Releases c

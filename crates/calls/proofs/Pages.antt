@@ -1,6 +1,6 @@
 -- What document 02, L1 and L4, promises of a grant by pages, for every height, table and argument.
-use mathlib.Core.Path.{_≡_, refl, sym, _∙_}
-use mathlib.Core.Bool.{Bool, true, false, not}
+use mathlib.Core.Path.{_≡_, refl, sym, ap, _∙_}
+use mathlib.Core.Bool.{Bool, true, false, not, cond, false≢true}
 use mathlib.Core.List.{List, [], _∷_, _++_}
 use Prim.Native.Nat.{ℕ, _+_, _^_, _≤_}
 use native.Mathlib.Omega.{arith}
@@ -15,18 +15,20 @@ use Rattle.table.specs.Table.{nodeAt, countsOf, in-order?}
 use Rattle.sizes.specs.Level.{levelFor}
 use Rattle.sizes.proofs.Level.{level-of-pages}
 use Rattle.calls.specs.Call.{grant-pages}
-use Rattle.calls.specs.Step.{Check, check, first, pages-check, grant-holdings, step}
+use Rattle.calls.specs.Step.{Check, check, first, pages-check, repeats, grant-holdings, step}
+use Rattle.calls.specs.History.{gave-block, inTable}
 use Rattle.calls.specs.Demand.{by-pages}
 use Rattle.calls.specs.Pages.{PagesPromise}
 use Rattle.calls.proofs.Checks.{four, four-numbered, first-after-none, first-stands, answer-is-first}
 use Rattle.calls.proofs.Accepted.{demand-2}
 
 -- what comes after 6 does not answer 6
-not-6 : (a b c : Bool) → ¬ (first (check 7 a ∷ check 8 b ∷ check 10 c ∷ []) ≡ 6)
-not-6 true b c e = omega arith
-not-6 false true c e = omega arith
-not-6 false false true e = omega arith
-not-6 false false false e = omega arith
+not-6 : (a r b c : Bool) → ¬ (first (check 7 a ∷ cond r [] (check 8 b ∷ check 10 c ∷ [])) ≡ 6)
+not-6 true r b c e = omega arith
+not-6 false true b c e = omega arith
+not-6 false false true c e = omega arith
+not-6 false false false true e = omega arith
+not-6 false false false false e = omega arith
 
 -- what is checked after 6
 later : ℕ → List ℕ → ℕ → ℕ → List Check
@@ -45,7 +47,8 @@ module _ (h : ℕ) (T : List ℕ) (t p m : ℕ) (passed : first (four h (length 
 
   later-not-6 : ¬ (first (later h T t p) ≡ 6)
   unfolding later
-  later-not-6 = not-6 (not (in-order? h T)) (ltb 0 (nodeAt T t)) (ltb (2 ^ h) (pages (countsOf h T) + 2 ^ levelFor h p))
+  later-not-6 =
+      not-6 (not (in-order? h T)) (repeats h T t (levelFor h p)) (ltb 0 (nodeAt T t)) (ltb (2 ^ h) (pages (countsOf h T) + 2 ^ levelFor h p))
 
   answered-6 : 2 ^ h ≤ p → step h T (grant-pages t p m) .answer ≡ 6
   answered-6 q = rw (le-leb (2 ^ h) p q) at decided
@@ -60,7 +63,14 @@ module _ (h : ℕ) (T : List ℕ) (t p m : ℕ) (passed : first (four h (length 
 -- the node is on the level that the pages take
 on-level : (h : ℕ) (T : List ℕ) (t p m : ℕ) → step h T (grant-pages t p m) .answer ≡ 0
     → level h (step h T (grant-pages t p m) .node) ≡ levelFor h p
-on-level h T t p m e = demand-2 h T (grant-pages t p m) .grant (levelFor h p) by-pages e .placed .on-level
+on-level h T t p m e = go (gave-block (inTable h T t) (inTable h (step h T (grant-pages t p m) .table) t)) refl
+  where
+    go : (b : Bool) → gave-block (inTable h T t) (inTable h (step h T (grant-pages t p m) .table) t) ≡ b
+        → level h (step h T (grant-pages t p m) .node) ≡ levelFor h p
+    go true g = demand-2 h T (grant-pages t p m) .grant (levelFor h p) by-pages g .placed .on-level
+    go false g =
+        let r = demand-2 h T (grant-pages t p m) .repetition (levelFor h p) by-pages e (λ y. false≢true (sym g ∙ y)) in
+        ap (level h) (r .unchanged .node) ∙ r .on-level
 
 -- 1 to 4 are other numbers than 6
 four-not-6 : (a b c d : Bool) → ¬ (first (check 1 a ∷ check 2 b ∷ check 3 c ∷ check 4 d ∷ []) ≡ 6)

@@ -1,4 +1,5 @@
--- What an accepted call does, for every height and table. Demand 2, document 01's "Calls", and document 02: the list of L2, and the growth of L5.
+-- What an accepted call does, for every height and table. Demand 2, document 01's "Calls", and document 02: the list of L2, the growth of L5, and the
+-- repeated grant of L6.
 use mathlib.Core.Path.{_≡_}
 use mathlib.Core.Bool.{true}
 use mathlib.Core.List.{List}
@@ -13,7 +14,8 @@ use Rattle.table.specs.Plan.{no-move}
 use Rattle.table.specs.declared.Move.{Move}
 use Rattle.carrying.specs.Carrying.{Workable}
 use Rattle.calls.specs.Call.{Call, tenantOf}
-use Rattle.calls.specs.Step.{Outcome, step}
+use Rattle.calls.specs.Step.{Outcome, repeated, step}
+use Rattle.calls.specs.History.{gave-block, inTable}
 use Rattle.calls.specs.Demand.{Asks, Releases, Grows, Unchanged}
 
 -- m takes a tenant other than t from its node in T to a different one, its node in T′
@@ -63,6 +65,12 @@ pub record AfterGrant (h : ℕ) (T : List ℕ) (t l : ℕ) (o : Outcome) : Type 
   pub had-nothing : nodeAt T t ≡ 0
   pub placed : Placed h T t l o
 
+-- a repeated grant: the tenant holds a block of just that level, and nothing changes
+pub record AfterRepetition (h : ℕ) (T : List ℕ) (t l : ℕ) (o : Outcome) : Type 0 where
+  pub had-one : 0 < nodeAt T t
+  pub on-level : level h (nodeAt T t) ≡ l
+  pub unchanged : Unchanged t T o
+
 -- a release: one block fewer at the level of the node given up, which the answer names
 pub record AfterRelease (h : ℕ) (T : List ℕ) (t : ℕ) (o : Outcome) : Type 0 where
   pub settled : Settled h t T o
@@ -81,8 +89,17 @@ pub record AfterGrowth (h : ℕ) (T : List ℕ) (t l : ℕ) (o : Outcome) : Type
   pub placed : Placed h T t l o
   pub same-level : level h (nodeAt T t) ≡ l → Unchanged t T o
 
+-- the call c gave a block
+abbrev pub Gave : ℕ → List ℕ → Call → Type 0
+Gave h T c = gave-block (inTable h T (tenantOf c)) (inTable h (step h T c .table) (tenantOf c)) ≡ true
+
 -- demand 2: what an accepted call c does to the table T at height h
 pub record Demand2 (h : ℕ) (T : List ℕ) (c : Call) : Type 0 where
-  pub grant : (l : ℕ) → Asks h c l → step h T c .answer ≡ 0 → AfterGrant h T (tenantOf c) l (step h T c)
+  -- a grant answered 0 gives a block, or is a repeated one; no other call gives one
+  pub grant : (l : ℕ) → Asks h c l → Gave h T c → AfterGrant h T (tenantOf c) l (step h T c)
+  pub repetition : (l : ℕ) → Asks h c l → step h T c .answer ≡ 0 → ¬ Gave h T c → AfterRepetition h T (tenantOf c) l (step h T c)
+  pub gives : Gave h T c → (step h T c .answer ≡ 0) × ((l : ℕ) × Asks h c l)
+  -- a grant answered 0 and made again at once names the same node, and nothing changes
+  pub again : (l : ℕ) → Asks h c l → step h T c .answer ≡ 0 → step h (step h T c .table) c ≡ repeated (step h T c .table) (step h T c .node)
   pub release : Releases c → step h T c .answer ≡ 0 → AfterRelease h T (tenantOf c) (step h T c)
   pub growth : (l : ℕ) → Grows c l → step h T c .answer ≡ 0 → AfterGrowth h T (tenantOf c) l (step h T c)

@@ -17,7 +17,8 @@ use Rattle.table.specs.Plan.{planOf}
 use Rattle.table.specs.declared.plan.Planned.{Planned}
 use Rattle.carrying.specs.Order.{inOrder}
 use Rattle.calls.specs.Call.{Call}
-use Rattle.calls.specs.Step.{Outcome, check, first, grant-holdings, grow-holdings, countsBut, holdings, granted, released, accepted, unless}
+use Rattle.calls.specs.Step.{Outcome, refused, check, first, grant-holdings, grow-holdings, countsBut, holdings}
+use Rattle.calls.specs.Step.{granted, repeated, blockFor, released, accepted, unless}
 
 -- the arguments have passed 1, 2 and 4
 pub record Ready (h : ℕ) (T : List ℕ) (t : ℕ) : Type 0 where
@@ -56,9 +57,13 @@ unfoldable pub placeOn : ℕ → List ℕ → ℕ → ℕ → Outcome
 placeOn h T t l =
     unless (first (check 10 (ltb (2 ^ h) (pages (others h T t) + 2 ^ l)) ∷ [])) T (granted h (set T t 0) (layoutSet h (oneMore (others h T t) l)) t l)
 
+-- a grant of level l to one that holds node n: 8, or the node
+unfoldable pub toHolder : ℕ → List ℕ → ℕ → ℕ → Outcome
+toHolder h T n l = cond (eqb (level h n) l) (repeated T n) (refused 8 T)
+
 -- a grant at level l on a table in order: 8, 10, or the block
 unfoldable pub grantOn : ℕ → List ℕ → ℕ → ℕ → Outcome
-grantOn h T t l = unless (first (grant-holdings h T t l)) T (granted h T (layoutSet h (oneMore (countsOf h T) l)) t l)
+grantOn h T t l = unless (first (grant-holdings h T t l)) T (blockFor h T t l)
 
 -- a release: 9, or the node given up
 unfoldable pub releaseOn : ℕ → List ℕ → ℕ → Outcome

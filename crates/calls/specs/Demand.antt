@@ -1,6 +1,7 @@
--- Demand 3 and document 01's list under "Histories", with the growth of document 02, L5, as one statement about two whole histories of one height.
+-- Demand 3 and document 01's list under "Histories", with the growth of document 02, L5, and the repeated grant of L6, as one statement about two
+-- whole histories of one height.
 use mathlib.Core.Path.{_≡_}
-use mathlib.Core.Bool.{not, _&&_}
+use mathlib.Core.Bool.{true, not, _&&_}
 use mathlib.Core.List.{List, []}
 use mathlib.Core.Logic.{_⊎_, _↔_}
 use mathlib.Core.Option.{Option, some, none}
@@ -13,7 +14,7 @@ use Rattle.table.specs.Table.{nodeAt, occupied}
 use Rattle.sizes.specs.Level.{levelFor}
 use Rattle.calls.specs.Call.{Call, grant-level, grant-pages, release, grow, tenantOf}
 use Rattle.calls.specs.Step.{Outcome, first, validity, step}
-use Rattle.calls.specs.History.{History, tableAfter, Book, bookAfter, held, write}
+use Rattle.calls.specs.History.{History, tableAfter, Book, write, enter, bookAfter, gave-block, held}
 
 -- valid: none of 3 to 6 applies
 abbrev pub Valid : ℕ → Call → Type 0
@@ -73,7 +74,10 @@ pub record Box (h : ℕ) (T : List ℕ) (B : Book) : Type 0 where
   pub sized : (l : ℕ) → sizes h (occupied T) l ≡ held B l
   pub only : (A : Nodes) → Within h A → Legal A → Safe h A → ((l : ℕ) → sizes h A l ≡ held B l) → (n : ℕ) → A n ≡ occupied T n
   pub not-valid : (c : Call) → ¬ Valid h c → step h T c .answer ≡ first (validity h c)
-  pub holder-asks : (c : Call) (l k : ℕ) → Asks h c l → Valid h c → B (tenantOf c) ≡ some k → step h T c .answer ≡ 8
+  -- a repeated grant is answered 0, with its tenant's node and without moves; one of another level 8; either way the book stays
+  pub holder-repeats : (c : Call) (l : ℕ) → Asks h c l → Valid h c → B (tenantOf c) ≡ some l → Unchanged (tenantOf c) T (step h T c)
+  pub holder-asks : (c : Call) (l k : ℕ) → Asks h c l → Valid h c → B (tenantOf c) ≡ some k → ¬ (k ≡ l) → step h T c .answer ≡ 8
+  pub book-stays : (c : Call) (l k : ℕ) → Asks h c l → Valid h c → B (tenantOf c) ≡ some k → (u : ℕ) → enter h c (step h T c .answer) B u ≡ B u
   pub other-asks : (c : Call) (l : ℕ) → Asks h c l → Valid h c → B (tenantOf c) ≡ none
       → ((step h T c .answer ≡ 10) ↔ NoPlacement h B l) × ((step h T c .answer ≡ 10) ⊎ (step h T c .answer ≡ 0))
   pub holder-releases : (c : Call) (k : ℕ) → Releases c → Valid h c → B (tenantOf c) ≡ some k → step h T c .answer ≡ 0
@@ -82,6 +86,9 @@ pub record Box (h : ℕ) (T : List ℕ) (B : Book) : Type 0 where
   pub same-level : (c : Call) (l : ℕ) → Grows c l → Valid h c → B (tenantOf c) ≡ some l → Unchanged (tenantOf c) T (step h T c)
   pub holder-grows : (c : Call) (l k : ℕ) → Grows c l → Valid h c → B (tenantOf c) ≡ some k
       → ((step h T c .answer ≡ 10) ↔ NoExchange h B (tenantOf c) l) × ((step h T c .answer ≡ 10) ⊎ (step h T c .answer ≡ 0))
+  -- by the book a call gave a block exactly if its tenant had no node and has one now
+  pub gave : (c : Call) → (gave-block (B (tenantOf c)) (enter h c (step h T c .answer) B (tenantOf c)) ≡ true)
+      ↔ ((nodeAt T (tenantOf c) ≡ 0) × (0 < nodeAt (step h T c .table) (tenantOf c)))
   pub moves : (c : Call) → length (step h T c .moves) ≡ changed (tenantOf c) T (step h T c .table)
   pub grant-moves : (c : Call) (l : ℕ) → Asks h c l → step h T c .answer ≡ 0 → length (step h T c .moves) ≤ 3
   pub release-moves : (c : Call) → Releases c → step h T c .answer ≡ 0 → length (step h T c .moves) ≤ 4

@@ -1,14 +1,16 @@
--- Histories, and the book that is kept of them. Document 01, "Histories", and document 02, L5.
+-- Histories, and the book that is kept of them. Document 01, "Histories", and document 02, L5 and L6.
 use mathlib.Core.Path.{_≡_}
-use mathlib.Core.Bool.{Bool, false, cond}
+use mathlib.Core.Bool.{Bool, true, false, cond}
 use mathlib.Core.List.{List, [], _∷_}
 use mathlib.Core.Option.{Option, some, none}
 use Prim.Native.Nat.{ℕ, zero, suc}
 use lib.Dec.{eqb}
+use Rattle.tree.specs.Node.{level}
 use Rattle.tree.specs.Held.{count}
+use Rattle.table.specs.Table.{nodeAt}
 use Rattle.sizes.specs.Level.{levelFor}
 use Rattle.calls.specs.Call.{Call, grant-level, grant-pages, release, grow}
-use Rattle.calls.specs.Step.{Outcome, step, open-reserve}
+use Rattle.calls.specs.Step.{step, open-reserve}
 
 -- a history at height h: an accepted opening of a lent table, then any list of calls, each on the table that the last one left
 pub record History (h : ℕ) : Type 0 where
@@ -41,8 +43,8 @@ Book = ℕ → Option ℕ
 abbrev pub write : ℕ → Option ℕ → Book → Book
 write t e B u = cond (eqb u t) e (B u)
 
--- one call at height h with the number that it answered: a grant answered 0 writes the tenant's level down, a release answered 0 strikes it out,
--- a growth answered 0 writes the new level
+-- one call at height h with the number that it answered: a grant answered 0 writes the tenant's level down, and a repeated one the same level
+-- again; a release answered 0 strikes it out, a growth answered 0 writes the new level
 abbrev pub enter : ℕ → Call → ℕ → Book → Book
 enter h c (suc a) B = B
 enter h (grant-level t l m) zero B = write t (some l) B
@@ -59,6 +61,17 @@ bookFrom h B (c ∷ cs) (a ∷ as′) = bookFrom h (enter h c a B) cs as′
 -- after the opening it has nothing for anyone
 abbrev pub bookAfter : (h : ℕ) → History h → Book
 bookAfter h H = bookFrom h (λ t. none) (H .calls) (answersOf h H)
+
+-- Whether a call gave a block, by the entry of its tenant before and after it: nothing, and then a level. A repeated grant (document 02, L6) gave
+-- none, though it answers 0; nor did a growth. Where grants are counted, those that gave a block are.
+abbrev pub gave-block : Option ℕ → Option ℕ → Bool
+gave-block none none = false
+gave-block none (some l) = true
+gave-block (some k) after = false
+
+-- the entry that a table in order has for a tenant: the level of its node
+abbrev pub inTable : ℕ → List ℕ → Book
+inTable h T t = cond (eqb (nodeAt T t) 0) none (some (level h (nodeAt T t)))
 
 -- whether an entry of the book is level l
 abbrev pub at-level : Option ℕ → ℕ → Bool

@@ -1,6 +1,6 @@
 -- What each call answers and what it leaves in the table, for every height, table and argument. Document 01, "Calls" and "Refusals by place";
--- refusal 6 as document 02, L1, has it, the list of moves as L2, the level that pages 0 takes as L4, and a growth as L5.
-use mathlib.Core.Bool.{Bool, not, cond}
+-- refusal 6 as document 02, L1, has it, the list of moves as L2, the level that pages 0 takes as L4, a growth as L5, and a repeated grant as L6.
+use mathlib.Core.Bool.{Bool, not, cond, _&&_}
 use mathlib.Core.List.{List, [], _∷_, _++_}
 use Prim.Native.Nat.{ℕ, zero, suc, _+_, _^_}
 use lib.Dec.{eqb, ltb, leb}
@@ -54,24 +54,36 @@ reserve-checks h T = length-checks h (length T)
 abbrev pub list-checks : ℕ → ℕ → ℕ → List Check
 list-checks n t m = check 3 (ltb m n) ∷ check 4 (ltb 4095 t) ∷ []
 
+-- 5 for level l
+abbrev pub level-check : ℕ → ℕ → Check
+level-check h l = check 5 (ltb h l)
+
 -- 6 for p pages: from 2^h upwards, since the guard page has to go in too; so never for 0
 abbrev pub pages-check : ℕ → ℕ → Check
 pages-check h p = check 6 (leb (2 ^ h) p)
 
 -- 5 and 6
 abbrev pub size-checks : ℕ → Call → List Check
-size-checks h (grant-level t l m) = check 5 (ltb h l) ∷ []
+size-checks h (grant-level t l m) = level-check h l ∷ []
 size-checks h (grant-pages t p m) = pages-check h p ∷ []
 size-checks h (release t m) = []
-size-checks h (grow t l m) = check 5 (ltb h l) ∷ []
+size-checks h (grow t l m) = level-check h l ∷ []
 
 -- 3 to 6: those by which a call is not valid
 abbrev pub validity : ℕ → Call → List Check
 validity h c = list-checks (leastEntries c) (tenantOf c) (entriesOf c) ++ size-checks h c
 
--- 8 and 10
+-- whether a grant of level l to tenant t is a repeated one: t holds a block of just that level
+unfoldable pub repeats : ℕ → List ℕ → ℕ → ℕ → Bool
+repeats h T t l = ltb 0 (nodeAt T t) && eqb (level h (nodeAt T t)) l
+
+-- 8 and 10, of a grant that is no repeated one
+abbrev pub block-checks : ℕ → List ℕ → ℕ → ℕ → List Check
+block-checks h T t l = check 8 (ltb 0 (nodeAt T t)) ∷ check 10 (ltb (2 ^ h) (pages (countsOf h T) + 2 ^ l)) ∷ []
+
+-- neither applies to a repeated one
 abbrev pub grant-holdings : ℕ → List ℕ → ℕ → ℕ → List Check
-grant-holdings h T t l = check 8 (ltb 0 (nodeAt T t)) ∷ check 10 (ltb (2 ^ h) (pages (countsOf h T) + 2 ^ l)) ∷ []
+grant-holdings h T t l = cond (repeats h T t l) [] (block-checks h T t l)
 
 -- the counts without the block of tenant t, which holds one
 abbrev pub countsBut : ℕ → List ℕ → ℕ → List ℕ
@@ -103,7 +115,15 @@ granted h T N t l = record {
   table = set (moved h N T) t (withNode 0 (newcomer h (occupied T) N l));
 }
 
--- the same with t's entry struck out
+-- a repeated grant, to one that holds node n: it names n, nobody moves, and the table stays as it was
+abbrev pub repeated : List ℕ → ℕ → Outcome
+repeated T n = record { answer = 0; node = n; moves = []; table = T }
+
+-- a grant of level l to tenant t, which holds a block of just that level or none
+abbrev pub blockFor : ℕ → List ℕ → ℕ → ℕ → Outcome
+blockFor h T t l = cond (repeats h T t l) (repeated T (nodeAt T t)) (granted h T (layoutSet h (oneMore (countsOf h T) l)) t l)
+
+-- the table and the moves with everybody but t in the set N, and t's entry struck out
 abbrev pub released : ℕ → List ℕ → Nodes → ℕ → Outcome
 released h T N t = record {
   answer = 0;
@@ -112,11 +132,11 @@ released h T N t = record {
   table = moved h N (set T t 0);
 }
 
--- What an accepted call does: the counts with one more or one fewer decide the new set. Who grows is out of the way first, and then comes as a
--- newcomer does.
+-- What an accepted call does: the counts with one more or one fewer decide the new set, and a repeated grant leaves everything as it was. Who
+-- grows is out of the way first, and then comes as a newcomer does.
 abbrev pub accepted : ℕ → List ℕ → Call → Outcome
-accepted h T (grant-level t l m) = granted h T (layoutSet h (oneMore (countsOf h T) l)) t l
-accepted h T (grant-pages t p m) = granted h T (layoutSet h (oneMore (countsOf h T) (levelFor h p))) t (levelFor h p)
+accepted h T (grant-level t l m) = blockFor h T t l
+accepted h T (grant-pages t p m) = blockFor h T t (levelFor h p)
 accepted h T (release t m) = released h T (layoutSet h (countsBut h T t)) t
 accepted h T (grow t l m) = granted h (set T t 0) (layoutSet h (oneMore (countsBut h T t) l)) t l
 

@@ -1,13 +1,14 @@
 // A call whose arguments are valid: what the table decides, and the table changed.
 ghost use mathlib.Core.Path.{_≡_};
-ghost use Prim.Native.Nat.{_+_, _^_, _≤_};
+ghost use mathlib.Core.List.{List};
+ghost use Prim.Native.Nat.{ℕ, _+_, _^_, _≤_};
 ghost use lib.Dec.{leb};
 ghost use Rattle.layout.specs.Layout.{pages};
 ghost use Rattle.calls.specs.Call.{tenantOf};
 ghost use Rattle.calls.specs.Step.{first, size-checks};
 ghost use Rattle.calls.specs.Value.{callOf, Gives};
 ghost use Rattle.calls.specs.Changes.{Ready, Looked, without as Changes·without, Target, Resettled};
-ghost use Rattle.calls.specs.Changes.{placeOn, grantOn, releaseOn, changeOn};
+ghost use Rattle.calls.specs.Changes.{placeOn, toHolder, grantOn, releaseOn, changeOn};
 use crate::Answer;
 use crate::Call;
 use crate::Called;
@@ -22,6 +23,7 @@ use refusal::NO_ROOM;
 use refusal::NOT_IN_ORDER;
 use sizes::level_for;
 use table::NODES;
+use table::plan::Plan;
 use table::plan::Planned;
 use table::plan::plan_moves;
 
@@ -61,7 +63,7 @@ pub fn change(height: u16, table: &mut [u16], call: Call) -> Called
     }
 }
 
-// Grants the tenant a block of the level on a table in order, unless it holds one or there is no room.
+// Grants the tenant a block of the level on a table in order, unless it holds one of another level or there is no room.
 fn grant(
     height: u16,
     table: &mut [u16],
@@ -76,10 +78,24 @@ fn grant(
     ensures { λ r. ⌜ Gives (grantOn height (now (table .entry)) tenant level) r (now (table .exit)) ⌝ }
 {
     let t = tenant as usize;
-    if table[t] != 0 {
-        return refused(HOLDS);
+    let node = table[t];
+    if node != 0 {
+        return answer_holder(height, node, level);
     }
     place(height, table, tenant, level, counts, owners)
+}
+
+// What a grant of the level gets a tenant that holds the node: the node itself, if it is of that level, since the grant is then a repeated one.
+fn answer_holder(height: u16, node: u16, level: u16) -> Called
+    ensures { λ r. ⌜ ((T : List ℕ) → Gives (toHolder height T node level) r T) ⌝ }
+{
+    if tree::level(height, node) != level {
+        return refused(HOLDS);
+    }
+    Called {
+        answer: Answer::Done { node },
+        plan: Plan::none(),
+    }
 }
 
 // Releases the tenant's block on a table in order, unless it holds none.

@@ -12,7 +12,7 @@ mod change;
 mod clear;
 pub mod request;
 
-// What a call reports: done, with the node that its tenant got or gave up (0 for an opening), or the number of its refusal.
+// What a call reports: done, with the node that its tenant has now or gave up (0 for an opening), or the number of its refusal.
 pub enum Answer {
     Done { node: u16 },
     Refused { number: u16 },

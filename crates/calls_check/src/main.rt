@@ -14,6 +14,7 @@ fn main() {
     listing();
     height_5();
     by_pages();
+    repetitions();
     growths();
     seven_moves();
     openings();
@@ -76,6 +77,38 @@ fn by_pages() {
     grant_pages(5, table, 4, 4, 32);
     grant_pages(5, table, 4, 4, 0);
     release(5, table, 4, 2);
+    show(table);
+}
+
+// Repeated grants by level and by pages, also to tenants that have moved since and on a full reserve; other levels; a list that is too short; and
+// the same start after a release, which is a new one.
+fn repetitions() {
+    text(b"# repetitions\n");
+    let mut space = [0u16; 4096];
+    let table: &mut [u16] = &mut space;
+    open(2, table);
+    grant(2, table, 4, 0, 1);
+    grant(2, table, 4, 0, 1);
+    grant_pages(2, table, 4, 0, 1);
+    grant_pages(2, table, 4, 0, 0);
+    grant(2, table, 4, 0, 0);
+    grant(2, table, 4, 1, 0);
+    grant(2, table, 4, 1, 0);
+    grant_pages(2, table, 4, 1, 1);
+    full_repetitions(table);
+    release(2, table, 4, 1);
+    grant(2, table, 4, 1, 0);
+    show(table);
+}
+
+fn full_repetitions(table: &mut [u16]) {
+    grant(2, table, 4, 2, 0);
+    grant(2, table, 4, 0, 1);
+    grant(2, table, 4, 1, 0);
+    grant(2, table, 4, 2, 0);
+    grant(2, table, 3, 0, 1);
+    grant(2, table, 4, 0, 2);
+    grant(2, table, 4, 3, 0);
     show(table);
 }
 

@@ -13,8 +13,9 @@ use Rattle.journal.specs.declared.Read.{Read}
 use Rattle.journal.specs.Format.{kindOf}
 use Rattle.journal.specs.Reader.{readAt}
 use Rattle.journal.specs.Journal.{CanStand}
+use Rattle.sizes.specs.Level.{levelFor}
 use Rattle.calls.specs.Call.{Call, grant-level, grant-pages, release, grow}
-use Rattle.calls.specs.Step.{Check, check, first, validity, holdings, checks, step}
+use Rattle.calls.specs.Step.{Check, check, first, validity, repeats, block-checks, grant-holdings, holdings, checks, step}
 use Rattle.calls.proofs.Checks.{answer-is-first}
 use Rattle.replay.specs.Replay.{State, outcomeOf, heightAfter, listed, turn}
 use Rattle.replay.proofs.Turns.{turn-at}
@@ -61,9 +62,16 @@ first-not-one (c ∷ cs) a e = go (ltb 1 (c .number)) refl (c .applies) a e (fir
 abbrev later-checks : ℕ → List ℕ → Call → List Check
 later-checks h T c = check 2 (not (eqb (length T) 4096)) ∷ validity h c ++ check 7 (not (in-order? h T)) ∷ holdings h T c
 
+grant-above-one : (h : ℕ) (T : List ℕ) (t l : ℕ) → above-one (grant-holdings h T t l) ≡ true
+grant-above-one h T t l = go (repeats h T t l)
+  where
+    go : (b : Bool) → above-one (cond b [] (block-checks h T t l)) ≡ true
+    go true = refl
+    go false = refl
+
 later-above-one : (h : ℕ) (T : List ℕ) (c : Call) → above-one (later-checks h T c) ≡ true
-later-above-one h T (grant-level t l m) = refl
-later-above-one h T (grant-pages t p m) = refl
+later-above-one h T (grant-level t l m) = grant-above-one h T t l
+later-above-one h T (grant-pages t p m) = grant-above-one h T t (levelFor h p)
 later-above-one h T (release t m) = refl
 later-above-one h T (grow t l m) = refl
 

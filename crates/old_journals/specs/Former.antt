@@ -1,4 +1,5 @@
--- The rules before document 02, L4, by which old journals were answered: 0 pages took level 0. All else was as it is.
+-- The rules before document 02, L4, by which old journals were answered: 0 pages took level 0, and every grant to a tenant that holds a block was
+-- refused with 8, a repeated one too (document 02, L6). All else was as it is.
 use mathlib.Core.Bool.{not}
 use mathlib.Core.List.{List, [], _∷_, _++_}
 use Prim.Native.Nat.{ℕ, zero, suc, _+_}
@@ -9,7 +10,8 @@ use Rattle.table.specs.Table.{countsOf, in-order?}
 use Rattle.journal.specs.declared.Record.{Record}
 use Rattle.sizes.specs.Level.{leastLevel}
 use Rattle.calls.specs.Call.{Call, grant-level, grant-pages, release, grow}
-use Rattle.calls.specs.Step.{Outcome, check, first, reserve-checks, list-checks, pages-check, grant-holdings, granted, unless, step, open-reserve}
+use Rattle.calls.specs.Step.{Outcome, Check, check, first, reserve-checks, list-checks, level-check, pages-check, block-checks}
+use Rattle.calls.specs.Step.{granted, unless, step, open-reserve}
 use Rattle.histories.specs.Listing.{callsOf, openLine, linesAfter}
 
 -- the level that a grant by pages took: 0 names no size and took level 0; any other number took what it takes now (document 02, L1)
@@ -17,17 +19,19 @@ unfoldable pub formerLevel : ℕ → ℕ
 formerLevel zero = 0
 formerLevel (suc p) = leastLevel (suc p + 1)
 
--- what a grant by pages did: the checks and the layout of a grant by pages, with that level
-unfoldable pub formerGrant : ℕ → List ℕ → ℕ → ℕ → ℕ → Outcome
-formerGrant h T t p m =
-    let l = formerLevel p in
-    let checked = reserve-checks h T ++ list-checks 4 t m ++ pages-check h p ∷ check 7 (not (in-order? h T)) ∷ grant-holdings h T t l in
-    unless (first checked) T (granted h T (layoutSet h (oneMore (countsOf h T) l)) t l)
+-- what came before 8, for a grant with 5 or 6 as the check of its size
+abbrev pub before-8 : ℕ → List ℕ → ℕ → ℕ → Check → List Check
+before-8 h T t m size = reserve-checks h T ++ list-checks 4 t m ++ size ∷ check 7 (not (in-order? h T)) ∷ []
+
+-- what a grant of level l did
+unfoldable pub formerGrant : ℕ → List ℕ → ℕ → ℕ → ℕ → Check → Outcome
+formerGrant h T t l m size =
+    unless (first (before-8 h T t m size ++ block-checks h T t l)) T (granted h T (layoutSet h (oneMore (countsOf h T) l)) t l)
 
 -- what a call did: the others did what they do; a growth, which old journals do not have, is answered as it is now
 unfoldable pub formerStep : ℕ → List ℕ → Call → Outcome
-formerStep h T (grant-level t l m) = step h T (grant-level t l m)
-formerStep h T (grant-pages t p m) = formerGrant h T t p m
+formerStep h T (grant-level t l m) = formerGrant h T t l m (level-check h l)
+formerStep h T (grant-pages t p m) = formerGrant h T t (formerLevel p) m (pages-check h p)
 formerStep h T (release t m) = step h T (release t m)
 formerStep h T (grow t l m) = step h T (grow t l m)
 

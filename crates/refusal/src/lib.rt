@@ -21,7 +21,7 @@ pub const PAGES: u16 = 6;
 // The table is none that the planner leaves.
 pub const NOT_IN_ORDER: u16 = 7;
 
-// A grant to a tenant that holds a block.
+// A grant to a tenant that holds a block of another level.
 pub const HOLDS: u16 = 8;
 
 // A release or a growth by a tenant that holds none.

@@ -71,12 +71,15 @@ pub fn audit(tree: Tree, seen: &Seen) -> Result<(), String> {
     Ok(())
 }
 
-/// The caller's own tenant gets, or gives up, just the node that is answered; one that grows gets it for another.
+/// The caller's own tenant gets, or gives up, just the node that is answered; one that grows gets it for another, and one that
+/// is granted what it has keeps it.
 fn own_entry(tree: Tree, seen: &Seen) -> Result<(), String> {
     let tenant = seen.request.tenant() as usize;
     let entries = (seen.before[tenant], seen.after[tenant]);
     let is_right = match seen.request {
-        Request::GrantLevel { .. } | Request::GrantPages { .. } => entries == (0, seen.node),
+        Request::GrantLevel { .. } | Request::GrantPages { .. } => {
+            entries == (0, seen.node) || entries == (seen.node, seen.node) && is_repeated(tree, seen)
+        }
         Request::Release { .. } => entries == (seen.node, 0),
         Request::Grow { level, .. } => entries.0 != 0 && entries.1 == seen.node && tree.level(seen.node) == level,
     };
@@ -86,6 +89,11 @@ fn own_entry(tree: Tree, seen: &Seen) -> Result<(), String> {
         seen.node
     );
     Ok(())
+}
+
+/// A grant to somebody who holds a block is one of the same level, and nothing changes with it.
+fn is_repeated(tree: Tree, seen: &Seen) -> bool {
+    level_wanted(tree, seen.request) == Some(tree.level(seen.node)) && seen.before == seen.after
 }
 
 /// The list has every other tenant whose node changed, once, and nobody else.

@@ -9,7 +9,7 @@ use crate::occupancy::is_legal_and_safe;
 use crate::planner::{level_for_pages, too_many_pages, Request, TENANTS};
 use crate::refusal::{Refusal, DONE};
 
-#[derive(Clone, Debug)]
+#[derive(Clone, Debug, PartialEq, Eq)]
 pub struct Book {
     tree: Tree,
     levels: Vec<Option<u32>>,
@@ -86,13 +86,11 @@ impl Book {
 
     /// Why a valid call is still turned down.
     fn why_not_granted(&self, request: Request) -> Option<Refusal> {
-        match (request.is_grant(), self.level_of(request.tenant())) {
-            (true, Some(_)) => Some(Refusal::HoldsAlready),
+        let (held, wanted) = (self.level_of(request.tenant()), level_wanted(self.tree, request));
+        match (request.is_grant(), held) {
+            (true, Some(_)) => (held != wanted).then_some(Refusal::HoldsAlready),
             (false, None) => Some(Refusal::HoldsNothing),
-            _ => {
-                let wanted = level_wanted(self.tree, request)?;
-                (1 << wanted > self.room_for(request.tenant())).then_some(Refusal::NoRoom)
-            }
+            _ => (1 << wanted? > self.room_for(request.tenant())).then_some(Refusal::NoRoom),
         }
     }
 
@@ -101,14 +99,13 @@ impl Book {
         self.room() + self.level_of(tenant).map_or(0, |level| 1 << level)
     }
 
-    /// Writes down what a call's number means.
+    /// Writes down what a call's number means. Whatever the tenant had goes out first, so a grant that is repeated is not counted
+    /// twice.
     pub fn enter(&mut self, request: Request, answer: u32) {
         if answer != DONE {
             return;
         }
-        if !request.is_grant() {
-            self.strike_out(request.tenant());
-        }
+        self.strike_out(request.tenant());
         if let Some(level) = level_wanted(self.tree, request) {
             self.write_down(request.tenant(), level);
         }
@@ -120,8 +117,9 @@ impl Book {
     }
 
     fn strike_out(&mut self, tenant: u32) {
-        let level = self.levels[tenant as usize].take().expect("a level to strike out");
-        self.counts[level as usize] -= 1;
+        if let Some(level) = self.levels[tenant as usize].take() {
+            self.counts[level as usize] -= 1;
+        }
     }
 
     /// Whether a table shows what the book says: everybody's level, and the only safe places for so many blocks, by the

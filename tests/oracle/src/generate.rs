@@ -3,13 +3,22 @@
 use std::fmt;
 use std::ops::RangeInclusive;
 
-use crate::book::Book;
+use crate::book::{level_wanted, Book};
 use crate::definitions::{Counts, Node, Tree, TALLEST};
 use crate::journal::{self, Reading, Record, LONGEST};
 use crate::lifting;
-use crate::planner::{Request, TENANTS};
+use crate::planner::{level_for_pages, Request, TENANTS};
 use crate::random::Random;
+use crate::refusal::DONE;
 use crate::subject::{fewest_move_bytes, Reach, MOVE_BYTES};
+
+/// As far as the fields of a journal's records reach.
+const IN_RECORDS: Reach = Reach {
+    height: u8::MAX as u32,
+    tenant: u16::MAX as u32,
+    level: u8::MAX as u32,
+    pages: u16::MAX as u32,
+};
 
 /// A request with the length of the move list that is lent for it.
 #[derive(Clone, Copy, Debug, PartialEq, Eq)]
@@ -58,6 +67,24 @@ pub struct History {
     /// Who is there at the start; nothing if the history begins with an opening.
     pub start: Option<Vec<Holder>>,
     pub calls: Vec<Call>,
+}
+
+impl History {
+    /// Requests from an opening on, each with the shortest list that is taken.
+    pub fn of_requests(height: u32, requests: &[Request]) -> Self {
+        History {
+            height,
+            start: None,
+            calls: requests.iter().copied().map(Call::with_shortest_list).collect(),
+        }
+    }
+}
+
+/// A request, and those that repeat it at once.
+#[derive(Clone, Debug)]
+pub struct Step {
+    pub request: Request,
+    pub again: Vec<Request>,
 }
 
 impl fmt::Display for Call {
@@ -222,12 +249,40 @@ impl<'a> Author<'a> {
         (0..number).map(|_| self.call()).collect()
     }
 
-    /// The next request as a journal record, with its answer entered.
-    pub fn record(&mut self) -> Record {
+    /// The next request of a journal, where lists suffice, and its answer, which is entered.
+    fn answered(&mut self) -> (Request, u32) {
         let request = self.request();
         let answer = self.book.answer(request, request.fewest_entries());
         self.book.enter(request, answer);
-        record_of(request)
+        (request, answer)
+    }
+
+    /// The next request of a journal. A grant is repeated as it is and, if it was accepted, by its level and by pages as well.
+    fn step(&mut self) -> Step {
+        let (request, answer) = self.answered();
+        let mut again = Vec::new();
+        if request.is_grant() {
+            again.push(request);
+            if answer == DONE {
+                again.extend(self.in_other_words(request));
+            }
+        }
+        Step { request, again }
+    }
+
+    /// Grants of the level that a grant asks for: by that level, and by a number of pages that gets it, if there is one.
+    fn in_other_words(&mut self, grant: Request) -> Vec<Request> {
+        let tree = self.book.tree();
+        let tenant = grant.tenant();
+        let level = level_wanted(tree, grant).expect("a grant has a level");
+        let mut words = vec![Request::GrantLevel { tenant, level }];
+        let sizes = pages_for(tree, level);
+        if let (Some(&least), Some(&most)) = (sizes.first(), sizes.last()) {
+            let any = self.random.pick(&sizes);
+            let pages = self.random.pick(&[least, most, any]);
+            words.push(Request::GrantPages { tenant, pages });
+        }
+        words
     }
 
     fn request(&mut self) -> Request {
@@ -241,6 +296,7 @@ impl<'a> Author<'a> {
             0 => self.unfit_request(),
             1 => self.change_of_level(),
             2..=4 => self.growth(),
+            5 => self.second_grant(),
             _ => self.everyday_request(),
         }
     }
@@ -277,6 +333,16 @@ impl<'a> Author<'a> {
             _ => self.level_for(self.book.room_for(tenant)),
         };
         Request::Grow { tenant, level }
+    }
+
+    /// A grant to somebody who holds a block: mostly of its level, as when a start is repeated.
+    fn second_grant(&mut self) -> Request {
+        let tenant = self.tenant_to_release();
+        let level = match self.book.level_of(tenant) {
+            Some(level) if !self.random.one_in(4) => level,
+            _ => self.level_to_grant(),
+        };
+        self.grant(tenant, level)
     }
 
     /// Arguments that are out of range, one or all of them.
@@ -369,6 +435,12 @@ impl<'a> Author<'a> {
     }
 }
 
+/// All numbers of pages that get a block of a level.
+pub fn pages_for(tree: Tree, level: u32) -> Vec<u32> {
+    let named = 0..tree.pages_in_all();
+    named.filter(|&pages| level_for_pages(tree, pages) == level).collect()
+}
+
 fn record_of(request: Request) -> Record {
     match request {
         Request::GrantLevel { tenant, level } => Record::GrantLevel {
@@ -397,6 +469,12 @@ pub fn history(random: &mut Random, reach: Reach, height: u32, calls: usize) -> 
         calls,
     };
     (history, author.into_book())
+}
+
+/// Requests from an opening on, with every grant repeated at once.
+pub fn with_repetitions(random: &mut Random, height: u32, requests: usize) -> Vec<Step> {
+    let mut author = Author::new(random, IN_RECORDS, Book::new(Tree::new(height)));
+    (0..requests).map(|_| author.step()).collect()
 }
 
 /// A few calls on a reserve that is full or nearly so.
@@ -543,24 +621,26 @@ fn swap_in_level(random: &mut Random, tree: Tree, table: &mut [Node], held: &[us
 
 /// A journal as a box would write it, and sometimes one with a height that no box has.
 pub fn journal(random: &mut Random, records: usize) -> Vec<u8> {
-    let reach = Reach {
-        height: u8::MAX.into(),
-        tenant: u16::MAX.into(),
-        level: u8::MAX.into(),
-        pages: u16::MAX.into(),
-    };
     let height = match random.below(20) {
         0 => random.byte(),
         1 => 13,
         _ => random.below(TALLEST + 1) as u8,
     };
-    let mut bytes = Record::Open { height }.bytes();
     let tree = Tree::new(u32::from(height).min(TALLEST));
-    let mut author = Author::new(random, reach, Book::new(tree));
-    for _ in 0..records {
-        bytes.extend(author.record().bytes());
-    }
-    bytes
+    let mut author = Author::new(random, IN_RECORDS, Book::new(tree));
+    let requests: Vec<Request> = (0..records).map(|_| author.answered().0).collect();
+    journal_with(height, &requests)
+}
+
+/// The journal of some requests.
+pub fn journal_with(height: u8, requests: &[Request]) -> Vec<u8> {
+    let open = Record::Open { height };
+    let records = requests.iter().map(|&request| record_of(request));
+    [open]
+        .into_iter()
+        .chain(records)
+        .flat_map(|record| record.bytes())
+        .collect()
 }
 
 /// A journal as a box wrote it when an image that names no size got one page: blocks of one page are granted either way.

@@ -66,21 +66,21 @@ impl Request {
     }
 }
 
-/// What an image gets that names no size, which is a grant of 0 pages.
+/// The rules that calls are answered by.
 #[derive(Clone, Copy, Debug, PartialEq, Eq)]
-pub enum Unnamed {
-    /// Sixteen pages without a guard page, or the whole of a reserve that has fewer.
-    SixteenPages,
-    /// One page, as it was before. Old journals mean this.
-    OnePage,
+pub enum Rules {
+    Today,
+    /// Those of version 3.0, by which old journals were answered: a grant of 0 pages got one page, and a grant that was repeated
+    /// was refused. There were no growths; one is answered as it is today.
+    Version3,
 }
 
-impl Unnamed {
-    fn level(self, tree: Tree) -> u32 {
+impl Rules {
+    /// The level of an image that names no size: sixteen pages without a guard page, or the whole of a reserve that has fewer.
+    fn level_of_unnamed(self, tree: Tree) -> u32 {
         match self {
-            Unnamed::SixteenPages if tree.height() < 4 => tree.height(),
-            Unnamed::SixteenPages => 4,
-            Unnamed::OnePage => 0,
+            Rules::Today => tree.height().min(4),
+            Rules::Version3 => 0,
         }
     }
 }
@@ -133,23 +133,23 @@ pub fn open(height: u32, table: &[Node]) -> Outcome {
 
 /// Grants, releases or grows.
 pub fn call(lent: Lent, request: Request) -> Outcome {
-    call_under(Unnamed::SixteenPages, lent, request)
+    call_under(Rules::Today, lent, request)
 }
 
-/// The same under one of the rules for images that name no size.
-pub fn call_under(unnamed: Unnamed, lent: Lent, request: Request) -> Outcome {
-    outcome(lent.table, plan(unnamed, lent, request))
+/// The same by other rules.
+pub fn call_under(rules: Rules, lent: Lent, request: Request) -> Outcome {
+    outcome(lent.table, plan(rules, lent, request))
 }
 
 /// The level of the smallest block with room for so many pages and the guard page behind them, or that of an image that
 /// names no size.
 pub fn level_for_pages(tree: Tree, pages: u32) -> u32 {
-    level_under(Unnamed::SixteenPages, tree, pages)
+    level_under(Rules::Today, tree, pages)
 }
 
-fn level_under(unnamed: Unnamed, tree: Tree, pages: u32) -> u32 {
+fn level_under(rules: Rules, tree: Tree, pages: u32) -> u32 {
     if pages == 0 {
-        return unnamed.level(tree);
+        return rules.level_of_unnamed(tree);
     }
     let needed = u64::from(pages) + 1;
     (0..)
@@ -218,7 +218,7 @@ pub(crate) fn check_table(tree: Tree, table: &[Node]) -> Result<Counts, Refusal>
     }
 }
 
-fn plan(unnamed: Unnamed, lent: Lent, request: Request) -> Result<Plan, Refusal> {
+fn plan(rules: Rules, lent: Lent, request: Request) -> Result<Plan, Refusal> {
     let tree = check_reserve(lent.height, lent.table)?;
     check_request(tree, lent.entries, request)?;
     let held = Held {
@@ -227,8 +227,8 @@ fn plan(unnamed: Unnamed, lent: Lent, request: Request) -> Result<Plan, Refusal>
     };
     let tenant = request.tenant() as usize;
     match request {
-        Request::GrantLevel { level, .. } => grant(tree, held, tenant, level),
-        Request::GrantPages { pages, .. } => grant(tree, held, tenant, level_under(unnamed, tree, pages)),
+        Request::GrantLevel { level, .. } => grant(rules, tree, held, tenant, level),
+        Request::GrantPages { pages, .. } => grant(rules, tree, held, tenant, level_under(rules, tree, pages)),
         Request::Release { .. } => release(tree, held, tenant),
         Request::Grow { level, .. } => grow(tree, held, tenant, level),
     }
@@ -254,12 +254,18 @@ impl Held {
     }
 }
 
-fn grant(tree: Tree, held: Held, tenant: usize, level: u32) -> Result<Plan, Refusal> {
-    if held.table[tenant] != 0 {
-        return Err(Refusal::HoldsAlready);
-    }
+/// A tenant that holds a block of just this level has been started before, and is told its node once more.
+fn grant(rules: Rules, tree: Tree, held: Held, tenant: usize, level: u32) -> Result<Plan, Refusal> {
     let before = held.table.clone();
-    let_in(tree, &before, held, tenant, level)
+    match before[tenant] {
+        0 => let_in(tree, &before, held, tenant, level),
+        node if tree.level(node) == level && rules == Rules::Today => Ok(Plan {
+            node,
+            moves: Vec::new(),
+            table: before,
+        }),
+        _ => Err(Refusal::HoldsAlready),
+    }
 }
 
 fn release(tree: Tree, held: Held, tenant: usize) -> Result<Plan, Refusal> {

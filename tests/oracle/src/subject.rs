@@ -115,7 +115,11 @@ pub fn ask(subject: &mut dyn Subject, height: u32, table: &mut [u8], moves: &mut
 
 /// A table's image.
 pub fn table_image(table: &[Node]) -> Vec<u8> {
-    table.iter().flat_map(|node| node.to_le_bytes()).collect()
+    let mut image = vec![0; 2 * table.len()];
+    for (bytes, node) in image.as_chunks_mut().0.iter_mut().zip(table) {
+        *bytes = node.to_le_bytes();
+    }
+    image
 }
 
 /// The table that an image stands for. An image of another length stands for none; it becomes a table without
@@ -124,8 +128,7 @@ pub fn table_from(image: &[u8]) -> Vec<Node> {
     if image.len() != TABLE_BYTES {
         return Vec::new();
     }
-    let word = |pair: &[u8]| Node::from_le_bytes([pair[0], pair[1]]);
-    image.chunks_exact(2).map(word).collect()
+    image.as_chunks().0.iter().copied().map(Node::from_le_bytes).collect()
 }
 
 /// The first so many moves of a list's image; fewer if the list is not that long.

@@ -2,13 +2,15 @@
 
 use std::collections::BTreeSet;
 
-use oracle::compare::conversions::{first_finding, run, with_new_letters, Converter, Left};
+use oracle::compare::conversions::{
+    differs_in_repetitions_alone, first_finding, run, with_new_letters, Converter, Left,
+};
 use oracle::compare::{Amounts, Tally};
 use oracle::convert::{convert, Stop};
 use oracle::generate::{damage_journal, noise, old_journal, unnamed_of};
 use oracle::journal::{self, Reading, Record, LONGEST};
 use oracle::listing::{list, list_under};
-use oracle::planner::Unnamed;
+use oracle::planner::Rules;
 use oracle::random::Random;
 
 /// Old journals, some of them spoilt, and noise.
@@ -43,8 +45,8 @@ fn a_journal_is_refused_just_where_its_listing_ends_early() {
     for journal in journals(31, 2_000).chain(long) {
         let end = end_of(&list(&journal));
         assert_eq!(convert(&journal).err(), end, "{journal:?}");
-        // The rule for images that name no size has no part in that.
-        assert_eq!(end_of(&list_under(Unnamed::OnePage, &journal)), end, "{journal:?}");
+        // What calls are answered has no part in that.
+        assert_eq!(end_of(&list_under(Rules::Version3, &journal)), end, "{journal:?}");
         numbers.extend(end.map(|stop| stop.number));
     }
     assert_eq!(numbers, BTreeSet::from([1, 11, 12, 13, 14, 16]));
@@ -53,20 +55,36 @@ fn a_journal_is_refused_just_where_its_listing_ends_early() {
 #[test]
 fn a_converted_journal_is_answered_as_the_old_one_was() {
     let mut differently_today = 0;
+    let mut with_repetitions = 0;
     for journal in journals(32, 1_000) {
         let Ok(converted) = convert(&journal) else {
             continue;
         };
-        let before = list_under(Unnamed::OnePage, &journal);
-        assert_eq!(list(&converted), with_new_letters(&before), "{journal:?}");
-        assert_eq!(
-            list_under(Unnamed::OnePage, &converted),
-            list(&converted),
-            "{journal:?}"
-        );
-        differently_today += usize::from(list(&journal) != before);
+        let then = with_new_letters(&list_under(Rules::Version3, &journal));
+        assert_eq!(list_under(Rules::Version3, &converted), then, "{journal:?}");
+        assert!(differs_in_repetitions_alone(&then, &list(&converted)), "{journal:?}");
+        with_repetitions += usize::from(list(&converted) != then);
+        differently_today += usize::from(list(&converted) != with_new_letters(&list(&journal)));
     }
     assert!(differently_today > 250, "{differently_today}");
+    assert!(with_repetitions > 100, "{with_repetitions}");
+}
+
+#[test]
+fn repeated_grants_alone_are_answered_otherwise() {
+    let then = "1 O 1 - 0 - 0\n2 G 0 0 0 2 0\n3 G 0 0 8 - 0\n4 G 0 1 8 - 0\n";
+    let now = |lines: &str| ["1 O 1 - 0 - 0\n2 G 0 0 0 2 0\n", lines].concat();
+    let is_right = |lines| differs_in_repetitions_alone(then.as_bytes(), now(lines).as_bytes());
+    assert!(is_right("3 G 0 0 8 - 0\n4 G 0 1 8 - 0\n") && is_right("3 G 0 0 0 2 0\n4 G 0 1 8 - 0\n"));
+    for wrong in [
+        "3 G 0 0 0 2 0\n",
+        "3 G 0 0 0 - 0\n4 G 0 1 8 - 0\n",
+        "3 P 0 0 0 2 0\n4 G 0 1 8 - 0\n",
+        "3 G 0 0 10 - 0\n4 G 0 1 8 - 0\n",
+        "3 G 0 0 0 2 1 0:2>3\n4 G 0 1 8 - 0\n",
+    ] {
+        assert!(!is_right(wrong), "{wrong}");
+    }
 }
 
 #[test]
@@ -194,7 +212,7 @@ impl Fault {
 
     /// What becomes of a journal that is to be converted.
     fn out(self, journal: &[u8]) -> Vec<u8> {
-        let listing = list_under(Unnamed::OnePage, journal);
+        let listing = list_under(Rules::Version3, journal);
         let text = String::from_utf8_lossy(&listing);
         let answers = text.lines().map(|line| line.split(' ').nth(4) == Some("0"));
         let mut before = 0;
@@ -282,7 +300,7 @@ fn first_growth(journal: &[u8]) -> Option<usize> {
 }
 
 fn has_refused_lines(journal: &[u8]) -> bool {
-    let listing = String::from_utf8(list_under(Unnamed::OnePage, journal)).expect("a listing is plain text");
+    let listing = String::from_utf8(list_under(Rules::Version3, journal)).expect("a listing is plain text");
     listing.lines().any(|line| line.split(' ').nth(4) != Some("0"))
 }
 

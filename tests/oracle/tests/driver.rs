@@ -5,6 +5,7 @@ mod made_up;
 
 use faulty::growths::GrowthFault;
 use faulty::lists::{ListFault, Tables};
+use faulty::repeats::RepeatFault;
 use faulty::{Fault, Faulty, Narrow, ThirdOfItsSize};
 use made_up::MadeUp;
 use oracle::carrying::Move;
@@ -26,7 +27,7 @@ fn reported(subject: &mut dyn Subject, amounts: &Amounts) -> (Tally, String) {
 #[test]
 fn the_second_planner_agrees_with_itself() {
     let (tally, report) = reported(&mut Oracle, &Amounts::quick(21));
-    assert_eq!(tally, Tally { passed: 14, failed: 0 }, "{report}");
+    assert_eq!(tally, Tally { passed: 17, failed: 0 }, "{report}");
     assert!(
         report.lines().all(|line| line.ends_with("comparisons, seed 21")),
         "{report}"
@@ -62,6 +63,12 @@ found! {
     wrong_growths_are_found: GrowthFault::ALL.map(Fault::Growth), ["every growth", "lists of growths"];
     wrong_lists_of_growths_are_found: ListFault::ON_RESERVES.map(Fault::List), ["every growth"];
     wrong_lists_with_two_staged_are_found: ListFault::ON_GROWTHS.map(Fault::List), ["lists of growths"];
+    wrong_repetitions_are_found: RepeatFault::AT_ONCE.map(Fault::Repeat), ["every grant to a holder"];
+    wrong_second_grants_are_found: RepeatFault::OF_OTHER_LEVELS.map(Fault::Repeat), ["every grant to a holder"];
+    repetitions_that_are_seen_too_early_are_found: RepeatFault::TOO_EARLY.map(Fault::Repeat),
+        ["grants to holders on all heights"];
+    wrong_repetitions_of_every_grant_are_found: RepeatFault::AT_ONCE.map(Fault::Repeat),
+        ["repeated grants in histories"];
     wrong_refusals_are_found: Fault::REFUSALS,
         ["edges of the arguments", "every counts vector", "histories", "damaged tables"];
     wrong_sizes_are_found: Fault::SIZES, ["edges of the sizes"];
@@ -75,6 +82,8 @@ found! {
     wrong_places_are_found_in_histories: Fault::PLACES, ["histories"];
     wrong_lists_are_found_in_histories: ListFault::ON_RESERVES.map(Fault::List), ["histories"];
     wrong_growths_are_found_in_histories: GrowthFault::ALL.map(Fault::Growth), ["histories"];
+    wrong_repetitions_are_found_in_histories: RepeatFault::AT_ONCE.map(Fault::Repeat), ["histories"];
+    wrong_second_grants_are_found_in_histories: RepeatFault::OF_OTHER_LEVELS.map(Fault::Repeat), ["histories"];
 }
 
 /// The driver respects how far a door reaches.
@@ -87,7 +96,7 @@ fn no_number_is_handed_over_that_the_door_cannot_take() {
         ..Amounts::quick(25)
     };
     let (tally, report) = reported(&mut Narrow, &amounts);
-    assert_eq!(tally, Tally { passed: 14, failed: 0 }, "{report}");
+    assert_eq!(tally, Tally { passed: 17, failed: 0 }, "{report}");
 }
 
 #[test]
@@ -145,12 +154,12 @@ fn a_failing_history_is_shown_short() {
 fn a_finding_names_the_seed_and_the_calls() {
     let amounts = Amounts {
         tallest_for_all_counts: 0,
-        ..Amounts::quick(35)
+        ..Amounts::quick(40)
     };
     let (tally, report) = reported(&mut ThirdOfItsSize, &amounts);
     assert!(tally.failed >= 2, "{report}");
     let part = report
-        .split("histories: different, seed 35\n")
+        .split("\nhistories: different, seed 40\n")
         .nth(1)
         .expect("a finding");
     let mut lines = part.lines();

@@ -51,6 +51,8 @@ struct Seldom {
     of_grant: Most,
     of_release: Most,
     of_growth: Most,
+    /// Grants to tenants that had the level already.
+    repeated: usize,
     full: usize,
 }
 
@@ -69,8 +71,10 @@ impl Most {
 }
 
 impl Seldom {
-    fn note(&mut self, book: &Book, call: &Call, outcome: &Outcome) {
+    fn note(&mut self, book: &Book, call: &Call, before: &[Node], outcome: &Outcome) {
         *self.answers.entry(outcome.answer).or_default() += 1;
+        let is_repeated = call.request.is_grant() && outcome.answer == 0 && outcome.table == before;
+        self.repeated += usize::from(is_repeated);
         let most = match call.request {
             Request::GrantLevel { .. } | Request::GrantPages { .. } => &mut self.of_grant,
             Request::Release { .. } => &mut self.of_release,
@@ -90,7 +94,7 @@ fn run(history: &History, seldom: &mut Seldom) -> Vec<Node> {
     let mut book = Book::of_table(tree, &table);
     for call in &history.calls {
         let outcome = checked_call(&mut book, &table, call);
-        seldom.note(&book, call, &outcome);
+        seldom.note(&book, call, &table, &outcome);
         table = outcome.table;
     }
     table
@@ -151,6 +155,7 @@ fn histories_reach_every_answer_and_the_most_moves() {
     }
     assert!(seldom.answers[&0] * 2 > total, "{:?}", seldom.answers);
     assert!(seldom.full * 20 > total, "full {} times in {total}", seldom.full);
+    assert!(seldom.repeated * 50 > total, "{} repeated in {total}", seldom.repeated);
     let most = |moves, staged| Most { moves, staged };
     assert_eq!(seldom.of_grant, most(MOST_FOR_GRANT, 1));
     assert_eq!(seldom.of_release, most(MOST_FOR_RELEASE, 1));
@@ -190,6 +195,49 @@ fn every_call_up_to_height_5() {
     assert_eq!((most_for_grant, most_for_release), (MOST_FOR_GRANT, MOST_FOR_RELEASE));
     // Seven others move on no reserve as small as these.
     assert_eq!(most_for_growth, 5);
+}
+
+/// The level of the smallest block for a grant, in the papers' words.
+fn level_of_grant(tree: Tree, request: Request) -> u32 {
+    match request {
+        Request::GrantPages { pages: 0, .. } => tree.height().min(4),
+        Request::GrantPages { pages, .. } => tree.levels().find(|&level| pages < 1 << level).expect("a block"),
+        Request::GrantLevel { level, .. } => level,
+        _ => panic!("{request:?} is no grant"),
+    }
+}
+
+/// Every valid grant to a tenant with a level in the book: 0 with its node if it is that level, else 8. Nobody moves, and table
+/// and book stay.
+#[test]
+fn every_grant_to_a_holder_up_to_height_4() {
+    let mut random = Random::new(17);
+    let mut repeated = 0;
+    for (tree, counts) in trees_with_counts(0..=4) {
+        let holders = holders_for(&mut random, &counts);
+        let table = seat(tree, &holders);
+        let book = Book::of_table(tree, &table);
+        for holder in &holders {
+            let tenant = holder.tenant.into();
+            let by_level = tree.levels().map(|level| Request::GrantLevel { tenant, level });
+            let by_pages = (0..tree.pages_in_all()).map(|pages| Request::GrantPages { tenant, pages });
+            for request in by_level.chain(by_pages) {
+                let mut after = book.clone();
+                let outcome = checked_call(&mut after, &table, &Call::with_shortest_list(request));
+                let due = match level_of_grant(tree, request) == holder.level {
+                    true => (0, table[usize::from(holder.tenant)]),
+                    false => (8, 0),
+                };
+                assert_eq!((outcome.answer, outcome.node), due, "{request:?} on {counts:?}");
+                assert!(
+                    outcome.moves.is_empty() && outcome.table == table && after == book,
+                    "{request:?}"
+                );
+                repeated += usize::from(due.0 == 0);
+            }
+        }
+    }
+    assert!(repeated > 1_000, "{repeated}");
 }
 
 #[test]

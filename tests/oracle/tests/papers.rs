@@ -8,7 +8,7 @@ use oracle::journal::{self, Reading, Record, LONGEST};
 use oracle::lifting::layout;
 use oracle::listing::list;
 use oracle::page_map::{self, MAP_BYTES};
-use oracle::planner::{self, Lent, Outcome, Request, Unnamed, TENANTS};
+use oracle::planner::{self, Lent, Outcome, Request, Rules, TENANTS};
 use oracle::refusal::Refusal;
 use oracle::subject::{
     moves_from, put_moves, Oracle, Subject, FEWEST_MOVE_BYTES, FEWEST_MOVE_BYTES_TO_GROW, MOVE_BYTES,
@@ -255,6 +255,80 @@ fn a_growth_moves_seven_others() {
     assert_eq!(Tree::new(9).nodes_at(MOST_MOVED.from).start + 1, 257);
 }
 
+/// What a grant answers that is repeated: the node that the tenant has, and no moves; the table stays.
+fn kept(held: &[Node], tenant: u32) -> Outcome {
+    Outcome {
+        answer: 0,
+        node: held[tenant as usize],
+        moves: Vec::new(),
+        table: held.to_vec(),
+    }
+}
+
+/// The listing's fourth line moves everybody. Made once more it moves nobody, though the reserve is full now.
+#[test]
+fn a_start_may_be_repeated() {
+    let granted = call(2, &table(&[2, 6]), grant(2, 0));
+    assert_eq!((granted.answer, granted.moves.len()), (0, 2));
+    let held = granted.table;
+    assert_eq!(call(2, &held, grant(2, 0)), kept(&held, 2));
+    // Its node is 5, and tenant 0 has two pages.
+    assert_eq!(kept(&held, 2).node, 5);
+    assert_eq!(call(2, &held, grant(0, 1)), kept(&held, 0));
+    assert_eq!(call(2, &held, grant_pages(0, 1)), kept(&held, 0));
+    for other in [
+        grant(2, 1),
+        grant(2, 2),
+        grant(0, 0),
+        grant(0, 2),
+        grant_pages(0, 2),
+        grant_pages(0, 0),
+    ] {
+        assert_eq!(call(2, &held, other).answer, 8, "{other:?}");
+    }
+}
+
+/// With their guard page four to seven pages take a block of eight, and eight do not. Sixteen pages are had by an image that
+/// names eight to fifteen, and by one that names none.
+#[test]
+fn pages_are_rounded_before_they_are_compared() {
+    let held = table(&[2, 6]);
+    let same = |tenant: u32| -> Vec<u32> {
+        let is_same = |&pages: &u32| call(5, &held, grant_pages(tenant, pages)) == kept(&held, tenant);
+        (0..32).filter(is_same).collect()
+    };
+    assert_eq!(same(1), [4, 5, 6, 7]);
+    assert_eq!(same(0), [0, 8, 9, 10, 11, 12, 13, 14, 15]);
+}
+
+/// Whatever is wrong with the arguments comes before, and so does a table that is not in order.
+#[test]
+fn a_repeated_start_is_judged_where_8_is() {
+    let held = table(&[4, 10, 3]);
+    let short = Lent {
+        height: 3,
+        table: &held,
+        entries: 3,
+    };
+    assert_eq!(planner::call(short, grant(0, 1)).answer, 3);
+    assert_eq!(planner::call(Lent { entries: 4, ..short }, grant(0, 1)), kept(&held, 0));
+    assert_eq!(planner::call(Lent { height: 13, ..short }, grant(0, 1)).answer, 1);
+    for wrong in [table(&[4, 8]), table(&[5]), table(&[4, 4])] {
+        assert_eq!(call(3, &wrong, grant(0, 1)).answer, 7);
+        assert_eq!(call(3, &wrong, grant_pages(0, 1)).answer, 7);
+    }
+}
+
+/// After a growth its new level is the one that may be asked for again.
+#[test]
+fn a_start_may_be_repeated_after_a_growth() {
+    let grown = call(3, &table(&[4, 10]), grow(0, 2));
+    assert_eq!((grown.answer, grown.node), (0, 2));
+    assert_eq!(call(3, &grown.table, grant(0, 2)), kept(&grown.table, 0));
+    assert_eq!(call(3, &grown.table, grant_pages(0, 3)), kept(&grown.table, 0));
+    assert_eq!(call(3, &grown.table, grant(0, 1)).answer, 8);
+}
+
 const JOURNAL: [u8; 22] = [1, 2, 2, 0, 0, 1, 2, 1, 0, 0, 2, 2, 0, 0, 4, 7, 0, 3, 3, 0, 1, 0];
 
 const LISTING: &str = "\
@@ -273,6 +347,14 @@ fn listing(journal: &[u8]) -> String {
 #[test]
 fn the_listing_of_22_bytes() {
     assert_eq!(listing(&JOURNAL), LISTING);
+}
+
+/// A line of a repeated grant reads like that of a grant without moves.
+#[test]
+fn repeated_grants_are_lines_of_the_listing() {
+    let journal = [&JOURNAL[..], &[2, 2, 0, 0], &[3, 0, 0, 1, 0], &[2, 0, 0, 0]].concat();
+    let lines = "7 G 2 0 0 5 0\n8 P 0 1 0 3 0\n9 G 0 0 8 - 0\n";
+    assert_eq!(listing(&journal), [LISTING, lines].concat());
 }
 
 #[test]
@@ -468,7 +550,7 @@ fn as_many_images_without_a_size_fit_as_sixteen_pages_go_into_a_reserve() {
         }
         let further = [grant_pages(images, 0), grant(images, 0), grant_pages(0, 0)];
         let answers = further.map(|request| call(height, &held, request).answer);
-        assert_eq!(answers, [10, 10, 8], "height {height}");
+        assert_eq!(answers, [10, 10, 0], "height {height}");
     }
 }
 
@@ -488,18 +570,32 @@ fn images_without_a_size_are_refused_where_a_page_is_missing() {
 }
 
 #[test]
-fn the_rule_before_gave_one_page() {
-    let held = table(&[]);
+fn version_3_gave_one_page_and_refused_what_is_repeated() {
     for height in 0..=12 {
+        let tree = Tree::new(height);
+        let held = table(&[tree.nodes_at(height / 2).start]);
         let lent = Lent {
             height,
             table: &held,
             entries: 4,
         };
-        let before = |request| planner::call_under(Unnamed::OnePage, lent, request);
+        let before = |request| planner::call_under(Rules::Version3, lent, request);
         assert_eq!(before(grant_pages(7, 0)), before(grant(7, 0)), "height {height}");
-        // Nothing else differs from the rule of today.
-        for request in [grant_pages(7, 1), grant_pages(7, 1 << height), grant(7, 0), release(7)] {
+        let again = grant(0, height / 2);
+        assert_eq!(
+            (before(again).answer, before(again).table),
+            (8, held.clone()),
+            "height {height}"
+        );
+        // Nothing else differs from the rules of today.
+        let others = [
+            grant_pages(7, 1),
+            grant_pages(7, 1 << height),
+            grant(7, 0),
+            grant(0, height / 2 + 1),
+            release(0),
+        ];
+        for request in others {
             assert_eq!(before(request), call(height, &held, request), "height {height}");
         }
     }
@@ -521,6 +617,7 @@ fn the_table_is_judged_before_the_holdings() {
     }
     let full = table(&[1]);
     assert_eq!(call(3, &full, grant(0, 0)).answer, 8);
+    assert_eq!(call(3, &full, grant(0, 3)).answer, 0);
     assert_eq!(call(3, &full, grant(1, 0)).answer, 10);
     assert_eq!(call(3, &full, release(1)).answer, 9);
     assert_eq!(call(3, &full, grow(1, 3)).answer, 9);

@@ -20,9 +20,9 @@ use crate::subject::{
 
 /// What both planners made of a call.
 pub struct Same {
-    reply: Reply,
+    pub(super) reply: Reply,
     pub table: Vec<u8>,
-    moves: Vec<u8>,
+    pub(super) moves: Vec<u8>,
 }
 
 /// Asks both planners and compares the reply, the table and the whole list of moves.
@@ -301,7 +301,8 @@ fn requests_on(random: &mut Random, tree: Tree, table: &[Node]) -> [Request; 4] 
     ]
 }
 
-fn check_damaged(
+/// Makes a call on a table that may be spoilt, and shows one with few entries if it fails.
+pub(super) fn check_damaged(
     subject: &mut dyn Subject,
     tree: Tree,
     table: &[Node],

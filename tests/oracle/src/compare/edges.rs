@@ -48,14 +48,13 @@ fn edge_calls(reach: Reach, height: u32) -> Vec<Call> {
         requests.extend(levels.iter().map(|&level| Request::Grow { tenant, level }));
         requests.extend(pages.iter().map(|&pages| Request::GrantPages { tenant, pages }));
     }
-    let with_lengths = |request| lengths_beside(request).map(|move_bytes| Call { request, move_bytes });
-    requests.into_iter().flat_map(with_lengths).collect()
+    requests.into_iter().flat_map(with_lengths_beside).collect()
 }
 
-/// The lengths of move lists worth trying: nothing, an entry or a byte too few, enough, and a byte more.
-fn lengths_beside(request: Request) -> [usize; 5] {
+/// A request with the move lists worth trying: nothing, an entry or a byte too few, enough, and a byte more.
+pub(super) fn with_lengths_beside(request: Request) -> [Call; 5] {
     let enough = fewest_move_bytes(request);
-    [0, enough - MOVE_BYTES, enough - 1, enough, enough + 1]
+    [0, enough - MOVE_BYTES, enough - 1, enough, enough + 1].map(|move_bytes| Call { request, move_bytes })
 }
 
 /// Sizes at and beside the number of pages that there are.

@@ -163,7 +163,7 @@ pub fn same_readings(
 }
 
 /// Compares two listings and shows the first lines that differ.
-fn same_listing(listing: &[u8], right: &[u8]) -> Result<(), String> {
+pub(super) fn same_listing(listing: &[u8], right: &[u8]) -> Result<(), String> {
     if listing == right {
         return Ok(());
     }

@@ -34,13 +34,16 @@ impl Lent {
             untouched(before) && untouched(after),
             "bytes around the {what} were written"
         );
-        if let Some(place) = contents.iter().zip(right).position(|(byte, right)| byte != right) {
-            return Err(format!(
-                "byte {place} of the {what} is {}, and {} is right",
-                contents[place], right[place]
-            ));
+        // Comparing all at once is the quicker way, and nearly always enough.
+        if contents == right {
+            return Ok(());
         }
-        Ok(())
+        let place = contents.iter().zip(right).position(|(byte, right)| byte != right);
+        let place = place.expect("bytes of one length");
+        Err(format!(
+            "byte {place} of the {what} is {}, and {} is right",
+            contents[place], right[place]
+        ))
     }
 }
 

@@ -12,6 +12,7 @@ mod lent;
 mod maps;
 mod nodes;
 mod numbering;
+mod repeats;
 
 use std::error::Error;
 use std::io::{self, Write};
@@ -42,6 +43,8 @@ pub struct Amounts {
     pub conversions: usize,
     /// Pairs of histories that end in the same holdings.
     pub pairs: usize,
+    /// Histories in which every grant is repeated.
+    pub repetitions: usize,
 }
 
 impl Amounts {
@@ -64,6 +67,7 @@ impl Amounts {
             journals: 500,
             conversions: 200,
             pairs: 60,
+            repetitions: 26,
         }
     }
 
@@ -79,6 +83,7 @@ impl Amounts {
             journals: 3_000,
             conversions: 600,
             pairs: 600,
+            repetitions: 130,
         }
     }
 
@@ -92,6 +97,7 @@ impl Amounts {
             &mut self.journals,
             &mut self.conversions,
             &mut self.pairs,
+            &mut self.repetitions,
         ] {
             *amount *= factor;
         }
@@ -109,7 +115,7 @@ pub struct Tally {
 /// One part of the comparison. It gives the number of comparisons, or what it found.
 type Part = fn(&mut dyn Subject, &Amounts, &mut Random) -> Result<usize, String>;
 
-const PARTS: [(&str, Part); 14] = [
+const PARTS: [(&str, Part); 17] = [
     ("edges of the arguments", edges::edges),
     ("every counts vector", calls::every_counts),
     ("histories", calls::histories),
@@ -124,6 +130,9 @@ const PARTS: [(&str, Part); 14] = [
     ("counts of maps", maps::counts),
     ("every growth", growths::every_growth),
     ("lists of growths", growths::lists),
+    ("every grant to a holder", repeats::every_grant),
+    ("grants to holders on all heights", repeats::on_all_heights),
+    ("repeated grants in histories", repeats::in_histories),
 ];
 
 /// The random numbers of one part, the same whichever parts ran before.

@@ -144,13 +144,13 @@ impl GrowthFault {
     }
 }
 
-fn grant(tenant: usize, level: u32) -> Request {
+pub(super) fn grant(tenant: usize, level: u32) -> Request {
     let tenant = tenant as u32;
     Request::GrantLevel { tenant, level }
 }
 
 /// The table after a grant or a release by the second planner, if it is accepted.
-fn call(tree: Tree, table: &[Node], request: Request) -> Option<Vec<Node>> {
+pub(super) fn call(tree: Tree, table: &[Node], request: Request) -> Option<Vec<Node>> {
     let lent = Lent {
         height: tree.height(),
         table,
@@ -160,7 +160,7 @@ fn call(tree: Tree, table: &[Node], request: Request) -> Option<Vec<Node>> {
     (outcome.answer == DONE).then_some(outcome.table)
 }
 
-fn pages_held(tree: Tree, table: &[Node]) -> u32 {
+pub(super) fn pages_held(tree: Tree, table: &[Node]) -> u32 {
     let held: Vec<Node> = table.iter().copied().filter(|&node| node != 0).collect();
     tree.pages_taken(&tree.counts(&held))
 }

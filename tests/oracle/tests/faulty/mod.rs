@@ -2,6 +2,7 @@
 
 pub mod growths;
 pub mod lists;
+pub mod repeats;
 
 use growths::{GrowthFault, Other};
 use lists::{ListFault, Tables};
@@ -16,6 +17,7 @@ use oracle::subject::{
     ask, fewest_move_bytes, moves_from, put_moves, table_from, table_image, Count, Oracle, Pages, Reach, Reply,
     Subject, MOVE_BYTES, TABLE_BYTES,
 };
+use repeats::RepeatFault;
 
 /// The one mistake.
 #[derive(Clone, Copy, Debug, PartialEq, Eq)]
@@ -42,6 +44,8 @@ pub enum Fault {
     List(ListFault),
     // What becomes of a tenant that grows.
     Growth(GrowthFault),
+    // What a tenant gets that holds a block already.
+    Repeat(RepeatFault),
     // Who is turned down, and why.
     NoRoomToEveryone,
     NoRoomForTheLastPage,
@@ -412,6 +416,7 @@ impl Faulty {
             (Fault::Growth(fault), Request::Grow { tenant, level }) => {
                 return fault.instead(height, table, moves, tenant, level)
             }
+            (Fault::Repeat(fault), _) if request.is_grant() => return fault.instead(height, table, moves, request),
             (Fault::HoldingsBeforeTheTable, _) => return self.holdings_first(height, table, moves, request),
             (Fault::LegalTakenForSafe, _) => return self.legal_is_enough(height, table, moves, request),
             _ => return None,
@@ -777,14 +782,15 @@ macro_rules! as_the_oracle {
     };
 }
 
-/// A planner that goes wrong only in one rare situation: a grant of a size of which just two blocks are held.
+/// A planner that goes wrong only in one rare situation: a grant of a size of which just two blocks are held, unless it is
+/// repeated.
 pub struct ThirdOfItsSize;
 
 impl ThirdOfItsSize {
     fn grant(&self, height: u32, table: &mut [u8], moves: &mut [u8], request: Request) -> Reply {
         let before = table_from(table);
         let reply = ask(&mut Oracle, height, table, moves, request);
-        if reply.answer != DONE {
+        if reply.answer != DONE || table_from(table) == before {
             return reply;
         }
         let tree = Tree::new(height);

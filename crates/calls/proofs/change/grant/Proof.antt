@@ -1,25 +1,25 @@
--- `calls::change::grant` meets its contract: a holder is refused, and any other comes as a newcomer.
+-- `calls::change::grant` meets its contract: a holder is answered without a change, and any other comes as a newcomer.
 use Rattle.calls.proofs.Changing.{grant-to-holder, grant-places}
 use Rattle.calls.proofs.Given.{above-zero, gives-same}
 use borrow.Author.Needs.{needs}
 use Rattle.calls.proofs.change.grant.Statement.{statement}
 use Rattle.calls.proofs.change.grant.Tie as tie
 
-mul-if1 : tie.Need-mul-if1
-mul-if1 c = search needs
+mul-node : tie.Need-mul-node
+mul-node c = search needs
 
-slice-read-if1 : tie.Need-slice-read-if1
-slice-read-if1 c = search needs
+slice-read-node : tie.Need-slice-read-node
+slice-read-node c = search needs
 
-refused-requires : tie.Need-refused-requires
-refused-requires c κs = search needs
+answer-holder-requires : tie.Need-answer-holder-requires
+answer-holder-requires c κs = search needs
 
 returns : tie.Need-returns
 returns c =
     let start = c .before .before .before .before in
     let a = start .args in
     let T = a .table .now in
-    gives-same (c .refused .ensures T) (grant-to-holder (a .height) T (a .tenant) (a .level) (above-zero _ (c .before .if1 .taken)))
+    gives-same (c .answer-holder .ensures T) (grant-to-holder (a .height) T (a .tenant) (a .level) (above-zero _ (c .before .if1 .taken)))
 
 place-requires : tie.Need-place-requires
 place-requires c κs = search needs
@@ -36,4 +36,4 @@ returns-2 c =
 pub grant-spec : {M : Type 1} → statement M
 grant-spec =
     tie.close
-    (tie.spec mul-if1 slice-read-if1 refused-requires returns place-requires same-length returns-2)
+    (tie.spec mul-node slice-read-node answer-holder-requires returns place-requires same-length returns-2)
