@@ -14,6 +14,7 @@ pub mod Reported
 pub mod Box
 pub mod Demand
 pub mod Accepted
+pub mod Twice
 pub mod Pages
 pub mod Opening
 pub mod Given

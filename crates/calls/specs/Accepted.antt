@@ -15,7 +15,7 @@ use Rattle.table.specs.declared.Move.{Move}
 use Rattle.carrying.specs.Carrying.{Workable}
 use Rattle.calls.specs.Call.{Call, tenantOf}
 use Rattle.calls.specs.Step.{Outcome, repeated, step}
-use Rattle.calls.specs.History.{gave-block, inTable}
+use Rattle.calls.specs.History.{tableFrom, answersFrom, grants-twice, gave-block, inTable}
 use Rattle.calls.specs.Demand.{Asks, Releases, Grows, Unchanged}
 
 -- m takes a tenant other than t from its node in T to a different one, its node in T′
@@ -92,6 +92,12 @@ pub record AfterGrowth (h : ℕ) (T : List ℕ) (t l : ℕ) (o : Outcome) : Type
 -- the call c gave a block
 abbrev pub Gave : ℕ → List ℕ → Call → Type 0
 Gave h T c = gave-block (inTable h T (tenantOf c)) (inTable h (step h T c .table) (tenantOf c)) ≡ true
+
+-- From any table on, calls with each grant made again at once, as by a client that lost the reply, end in the same table; and each is answered as the
+-- one that it repeats. Document 02, L6.
+pub record SafeToRepeat (h : ℕ) (T : List ℕ) (cs : List Call) : Type 0 where
+  pub table : tableFrom h T (grants-twice cs cs) ≡ tableFrom h T cs
+  pub numbers : answersFrom h T (grants-twice cs cs) ≡ grants-twice cs (answersFrom h T cs)
 
 -- demand 2: what an accepted call c does to the table T at height h
 pub record Demand2 (h : ℕ) (T : List ℕ) (c : Call) : Type 0 where

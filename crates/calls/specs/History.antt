@@ -34,6 +34,21 @@ tableAfter h H = tableFrom h (open-reserve h (H .lent) .table) (H .calls)
 abbrev pub answersOf : (h : ℕ) → History h → List ℕ
 answersOf h H = answersFrom h (open-reserve h (H .lent) .table) (H .calls)
 
+-- ---- starts that are repeated
+
+-- a grant of either kind
+abbrev pub is-grant : Call → Bool
+is-grant (grant-level t l m) = true
+is-grant (grant-pages t p m) = true
+is-grant (release t m) = false
+is-grant (grow t l m) = false
+
+-- the elements beside calls, those beside grants twice: of the calls themselves, each grant made again at once
+unfoldable pub grants-twice : {A : Type 0} → List Call → List A → List A
+grants-twice [] xs = []
+grants-twice (c ∷ cs) [] = []
+grants-twice (c ∷ cs) (x ∷ xs) = cond (is-grant c) (x ∷ x ∷ grants-twice cs xs) (x ∷ grants-twice cs xs)
+
 -- ---- the book: for each tenant a level or nothing, from the calls' arguments and answers alone
 
 abbrev pub Book : Type 0
