@@ -2,7 +2,7 @@
 use mathlib.Core.Path.{_≡_, refl, sym, ap, _∙_, subst, fun-ext}
 use mathlib.Core.Bool.{Bool, true, false, not, cond, false≢true}
 use mathlib.Core.List.{List, _∷_, _++_}
-use mathlib.Core.Logic.{_↔_}
+use mathlib.Core.Logic.{_⊎_, inl, inr, _↔_}
 use mathlib.Core.Option.{Option, some, none}
 use Prim.Native.Nat.{ℕ, suc, _+_, _≤_, _<_}
 use native.Mathlib.Omega.{arith}
@@ -51,7 +51,7 @@ use Rattle.calls.proofs.Releasing.{release-movable, release-in-order, r
 use Rattle.calls.proofs.Releasing.{fewer-sizes}
 use Rattle.calls.proofs.Same.{same-level-unchanged}
 use Rattle.calls.proofs.Answers.{holder-repeats}
-use Rattle.calls.proofs.Cases.{both-zero, Granted, Repeated, Released, Grown}
+use Rattle.calls.proofs.Cases.{both-zero, Granted, Repeated, Released, Grown, repeated-unchanged}
 use Rattle.calls.proofs.Cases.{Case, by-grant, by-repetition, by-release, by-growth, by-refusal, case}
 use Rattle.calls.proofs.Box.{of-grant, of-growth, report, kept-by-call}
 
@@ -228,13 +228,6 @@ module _ (h : ℕ) (T : List ℕ) (c : Call) (e : step h T c .answer ≡ 0) wher
         placed = came-placed C (g .outcome);
       })
 
-  after-repetition : (l : ℕ) → Repeated h T c l → AfterRepetition h T (tenantOf c) l (step h T c)
-  after-repetition l r = record {
-    had-one = r .holds;
-    on-level = r .same;
-    unchanged = rw (r .outcome) (record { answer = refl; node = refl; moves = refl; table = refl });
-  }
-
   -- without t's block there is one fewer at its level
   struck-sized : 0 < nodeAt T (tenantOf c) → tenantOf c < 4096
       → (m : ℕ) → getD (countsBut h T (tenantOf c)) m 0 + one-if (eqb m (level h (nodeAt T (tenantOf c)))) ≡ sizes h (occupied T) m
@@ -296,10 +289,10 @@ accepted-if-gave h T c gave = go (ℕ-discrete (step h T c .answer) 0)
 
 pub demand-2 : (h : ℕ) (T : List ℕ) (c : Call) → Demand2 h T c
 demand-2 h T c = record {
-  grant = λ l a g. granted-by l a (given g .0) (given g .1) (cased (given g .0));
-  repetition = λ l a e not-given. repeated-by l a e not-given (cased e);
+  grant = λ l a g. granted-by l (given g .0) (given g .1) (asked l a (given g .0) (cased (given g .0)));
+  repetition = λ l a e not-given. repeated-by l e not-given (asked l a e (cased e));
   gives = λ g. (given g .0, given-by (given g .0) (given g .1) (cased (given g .0)));
-  again = λ l a e. again-by l a e (names-its-node l a e (cased e));
+  again = λ l a e. again-by l a e (names-its-node l e (asked l a e (cased e)));
   release = λ r e. released-by r e (cased e);
   growth = λ l g e. grown-by l g e (cased e);
 }
@@ -317,24 +310,25 @@ demand-2 h T c = record {
     refused-not : (n : ℕ) → step h T c .answer ≡ 0 → step h T c ≡ refused (suc n) T → ⊥
     refused-not n e o = omega (arith, e, ap (λ (x : Outcome). x .answer) o)
 
-    granted-by : (l : ℕ) → Asks h c l → step h T c .answer ≡ 0 → nodeAt T (tenantOf c) ≡ 0 → Case h T c
-        → AfterGrant h T (tenantOf c) l (step h T c)
-    granted-by l a e z (by-grant k g) =
-        subst (λ (j : ℕ). AfterGrant h T (tenantOf c) j (step h T c)) (one-level-asked h c k l (g .asks) a) (after-grant h T c e k g)
-    granted-by l a e z (by-repetition k r) = absurd (held-before (r .holds) z)
-    granted-by l a e z (by-release r) = absurd (held-before (r .holds) z)
-    granted-by l a e z (by-growth k g) = absurd (held-before (g .holds) z)
-    granted-by l a e z (by-refusal n o) = absurd (refused-not n e o)
+    -- an accepted grant gives a block, or is a repeated one
+    asked : (l : ℕ) → Asks h c l → step h T c .answer ≡ 0 → Case h T c → Granted h T c l ⊎ Repeated h T c l
+    asked l a e (by-grant k g) = inl (subst (Granted h T c) (one-level-asked h c k l (g .asks) a) g)
+    asked l a e (by-repetition k r) = inr (subst (Repeated h T c) (one-level-asked h c k l (r .asks) a) r)
+    asked l a e (by-release r) = absurd (grants-do-not-release h c l a (r .asks))
+    asked l a e (by-growth k g) = absurd (grants-do-not-grow h c l k a (g .asks))
+    asked l a e (by-refusal n o) = absurd (refused-not n e o)
 
-    repeated-by : (l : ℕ) → Asks h c l → step h T c .answer ≡ 0 → ¬ Gave h T c → Case h T c → AfterRepetition h T (tenantOf c) l (step h T c)
-    repeated-by l a e not-given (by-grant k g) =
-        let p = after-grant h T c e k g .placed in
+    granted-by : (l : ℕ) → step h T c .answer ≡ 0 → nodeAt T (tenantOf c) ≡ 0 → Granted h T c l ⊎ Repeated h T c l
+        → AfterGrant h T (tenantOf c) l (step h T c)
+    granted-by l e z (inl g) = after-grant h T c e l g
+    granted-by l e z (inr r) = absurd (held-before (r .holds) z)
+
+    repeated-by : (l : ℕ) → step h T c .answer ≡ 0 → ¬ Gave h T c → Granted h T c l ⊎ Repeated h T c l
+        → AfterRepetition h T (tenantOf c) l (step h T c)
+    repeated-by l e not-given (inl g) =
+        let p = after-grant h T c e l g .placed in
         absurd (not-given (given-by-nodes h T c e .1 (g .nothing, rw (p .newcomer) (p .a-node))))
-    repeated-by l a e not-given (by-repetition k r) =
-        subst (λ (j : ℕ). AfterRepetition h T (tenantOf c) j (step h T c)) (one-level-asked h c k l (r .asks) a) (after-repetition h T c e k r)
-    repeated-by l a e not-given (by-release r) = absurd (grants-do-not-release h c l a (r .asks))
-    repeated-by l a e not-given (by-growth k g) = absurd (grants-do-not-grow h c l k a (g .asks))
-    repeated-by l a e not-given (by-refusal n o) = absurd (refused-not n e o)
+    repeated-by l e not-given (inr r) = record { had-one = r .holds; on-level = r .same; unchanged = repeated-unchanged r }
 
     given-by : step h T c .answer ≡ 0 → nodeAt T (tenantOf c) ≡ 0 → Case h T c → (l : ℕ) × Asks h c l
     given-by e z (by-grant k g) = (k, g .asks)
@@ -344,13 +338,12 @@ demand-2 h T c = record {
     given-by e z (by-refusal n o) = absurd (refused-not n e o)
 
     -- the table has the node that a grant names
-    names-its-node : (l : ℕ) → Asks h c l → step h T c .answer ≡ 0 → Case h T c → nodeAt (step h T c .table) (tenantOf c) ≡ step h T c .node
-    names-its-node l a e (by-grant k g) = after-grant h T c e k g .placed .newcomer
-    names-its-node l a e (by-repetition k r) =
-        ap (λ (o : Outcome). nodeAt (o .table) (tenantOf c)) (r .outcome) ∙ sym (ap (λ (o : Outcome). o .node) (r .outcome))
-    names-its-node l a e (by-release r) = absurd (grants-do-not-release h c l a (r .asks))
-    names-its-node l a e (by-growth k g) = absurd (grants-do-not-grow h c l k a (g .asks))
-    names-its-node l a e (by-refusal n o) = absurd (refused-not n e o)
+    names-its-node : (l : ℕ) → step h T c .answer ≡ 0 → Granted h T c l ⊎ Repeated h T c l
+        → nodeAt (step h T c .table) (tenantOf c) ≡ step h T c .node
+    names-its-node l e (inl g) = after-grant h T c e l g .placed .newcomer
+    names-its-node l e (inr r) =
+        let u = repeated-unchanged r in
+        ap (λ (S : List ℕ). nodeAt S (tenantOf c)) (u .table) ∙ sym (u .node)
 
     -- and the book has its level, so that the same grant is a repeated one
     again-by : (l : ℕ) → Asks h c l → step h T c .answer ≡ 0 → nodeAt (step h T c .table) (tenantOf c) ≡ step h T c .node

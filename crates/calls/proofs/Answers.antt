@@ -26,7 +26,7 @@ use Rattle.calls.proofs.Room.{pages-one-more, count-one-more}
 use Rattle.calls.proofs.Kept.{Kept, sound, held-is-count, level-in-counts, no-room-no-set, room-some-set}
 use Rattle.calls.proofs.Exchanged.{held-exchanged}
 use Rattle.calls.proofs.Releasing.{counts-before, level-in-fewer, growth-coming}
-use Rattle.calls.proofs.Cases.{Case, by-grant, by-repetition, by-release, by-growth, by-refusal, case}
+use Rattle.calls.proofs.Cases.{Case, by-grant, by-repetition, by-release, by-growth, by-refusal, case, repeated-unchanged}
 use Rattle.calls.proofs.OneKind.{entered-grant, grants-do-not-release, grants-do-not-grow, releases-do-not-grow, one-level-grown}
 use Rattle.calls.proofs.Same.{same-level-unchanged}
 use Rattle.calls.proofs.Repeats.{repeats-if-holder, never-repeats}
@@ -81,7 +81,7 @@ module _ (h : ℕ) (T : List ℕ) (B : Book) (K : Kept h T B) where
 
       go : Case h T c → Unchanged t T (step h T c)
       go (by-grant k g) = absurd (not-zero (has-node t l e) (g .nothing))
-      go (by-repetition k r) = rw (r .outcome) (record { answer = refl; node = refl; moves = refl; table = refl })
+      go (by-repetition k r) = repeated-unchanged r
       go (by-release r) = absurd (grants-do-not-release h c l a (r .asks))
       go (by-growth k g) = absurd (grants-do-not-grow h c l k a (g .asks))
       go (by-refusal n o) = absurd (omega (arith, done, ap (λ (x : Outcome). x .answer) o))

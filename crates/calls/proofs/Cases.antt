@@ -16,7 +16,7 @@ use Rattle.sizes.specs.Level.{levelFor}
 use Rattle.calls.specs.Call.{Call, grant-level, grant-pages, release, grow, tenantOf}
 use Rattle.calls.specs.Step.{refused, Check, check, first, validity, countsBut, repeats, block-checks, grant-holdings, holdings, checks}
 use Rattle.calls.specs.Step.{granted, repeated, blockFor, released, accepted, unless, step}
-use Rattle.calls.specs.Demand.{Asks, by-level, by-pages, Releases, releases, Grows, grows}
+use Rattle.calls.specs.Demand.{Asks, by-level, by-pages, Releases, releases, Grows, grows, Unchanged}
 use Rattle.calls.proofs.Checks.{Sound, first-of-sound, Numbered, validity-numbered, not-applied, rest-zero, valid-tenant, valid-size}
 use Rattle.calls.proofs.Checks.{asked-in-height, grown-in-height}
 use Rattle.calls.proofs.Given.{above-zero}
@@ -57,6 +57,9 @@ pub data Case (h : ℕ) (T : List ℕ) (c : Call) : Type 0 where
   by-release : Released h T c → Case h T c
   by-growth : (l : ℕ) → Grown h T c l → Case h T c
   by-refusal : (n : ℕ) → step h T c ≡ refused (suc n) T → Case h T c
+
+pub repeated-unchanged : {h : ℕ} {T : List ℕ} {c : Call} {l : ℕ} → Repeated h T c l → Unchanged (tenantOf c) T (step h T c)
+repeated-unchanged r = rw (r .outcome) (record { answer = refl; node = refl; moves = refl; table = refl })
 
 pub both-zero : (xs ys : List Check) → Numbered xs → first (xs ++ ys) ≡ 0 → (first xs ≡ 0) × (first ys ≡ 0)
 both-zero [] ys n e = (refl, e)

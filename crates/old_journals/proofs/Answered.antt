@@ -171,7 +171,7 @@ lineWith n r o = lineOf n r (o .answer) (o .node) (o .moves)
 line-since : {h : ℕ} {c : Call} {old new : Outcome} (n : ℕ) (r : Record) → AnsweredSince h c old new
     → LineAlike r (lineWith n r old) (lineWith n (converted r) new)
 line-since {old = old} n r (AnsweredSince.as-then e) = rw e (line-alike n r (converted r) (old .answer) (old .node) (old .moves) (becomes r))
-line-since n r (AnsweredSince.repeated-now T l a p q old new) = rw (old, new) (LineAlike.repeated-line n (nodeAt T _))
+line-since n r (AnsweredSince.repeated-now T l a p q old new) = rw (old, new) (LineAlike.repeated-line n (nodeAt T _) p)
 
 -- with a report for each record
 lines-alike : {h : ℕ} {cs : List Call} {olds news : List Outcome} (n : ℕ) (rs : List Record) → AllAnsweredSince h cs olds news
@@ -234,5 +234,6 @@ pub answered-as-before : AnsweredAsBefore
 answered-as-before j h accepted rs reading = record {
   reads = reads j h accepted rs reading;
   reports = reports j h accepted rs reading;
+  lists = lists j h accepted rs reading;
   alike = alike j h accepted rs reading;
 }

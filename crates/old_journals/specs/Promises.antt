@@ -17,7 +17,7 @@ use Rattle.table.specs.Table.{nodeAt}
 use Rattle.calls.specs.Call.{Call, tenantOf}
 use Rattle.calls.specs.Step.{Outcome, refused, repeated}
 use Rattle.calls.specs.Demand.{Asks}
-use Rattle.histories.specs.Listing.{callsOf, Opens, reported}
+use Rattle.histories.specs.Listing.{callsOf, Opens, reported, openLine, linesAfter}
 use Rattle.old_journals.specs.Former.{formerReports, formerListing}
 
 -- ---- when
@@ -62,7 +62,7 @@ pub data LineAlike : Record → List ℕ → List ℕ → Type 0 where
   -- every other record has the same line
   same-line : {r : Record} (line : List ℕ) → ((tenant : ℕ) → ¬ (r ≡ Record.GrantPages tenant 0)) → LineAlike r line line
   -- but a repeated grant has 0 and a node for 8
-  repeated-line : {r : Record} (ordinal node : ℕ) → LineAlike r (lineOf ordinal r 8 0 []) (lineOf ordinal (converted r) 0 node [])
+  repeated-line : {r : Record} (ordinal node : ℕ) → 0 < node → LineAlike r (lineOf ordinal r 8 0 []) (lineOf ordinal (converted r) 0 node [])
 
 -- the lines of records, one by one
 pub data LinesAlike : List Record → List ℕ → List ℕ → Type 0 where
@@ -76,7 +76,9 @@ pub record AnsweredAlike (journal : List ℕ) (h : ℕ) (accepted : Opens h) (rs
   pub reads : Reading (convertedJournal journal) 0 (Record.Open h ∷ map converted rs) Read.End
   -- they are answered as the old ones were, record by record, but for repeated grants
   pub reports : AllAnsweredSince h (callsOf (map converted rs)) (formerReports h rs) (reported h accepted (map converted rs))
-  -- so the listing has the old listing's lines, but for repeated grants, and for the letter of the converted ones: their size is 0 before and after
+  -- the listing shows that
+  pub lists : listing (convertedJournal journal) ≡ openLine h ++ linesAfter 1 (map converted rs) (reported h accepted (map converted rs))
+  -- so it has the old listing's lines, but for repeated grants, and for the letter of the converted ones: their size is 0 before and after
   pub alike : LinesAlike (Record.Open h ∷ rs) (formerListing h rs) (listing (convertedJournal journal))
 
 -- the promise for every journal
