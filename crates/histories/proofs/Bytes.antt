@@ -6,17 +6,18 @@ use Prim.Native.Nat.{ℕ}
 use borrow.Author.Tests.{eqb-false}
 use lib.Dec.{eqb}
 use lib.ListN.{length}
-use Rattle.calls.specs.Call.{Call}
+use Rattle.table.specs.Table.{nodeAt}
+use Rattle.calls.specs.Call.{Call, tenantOf}
 use Rattle.calls.specs.Step.{Outcome as Result, step, open-reserve}
-use Rattle.calls.specs.History.{History, tableFrom, answersFrom, tableAfter, answersOf}
-use Rattle.calls.specs.Demand.{SameFate, Boxes}
+use Rattle.calls.specs.History.{History, tableFrom, answersFrom, tableAfter, answersOf, Book}
+use Rattle.calls.specs.Demand.{Unchanged, Box, SameFate, Boxes}
 use Rattle.calls.proofs.Demand.{kept-by-history, demand-3}
-use Rattle.image.specs.Image.{imageOf, tableOf}
+use Rattle.image.specs.Image.{imageOf, tableOf, numbersOf}
 use Rattle.reserve.specs.Door.{imageAfter, Reported, entriesIn, CalledOn}
 use Rattle.reserve.specs.declared.Outcome.{Outcome}
 use Rattle.image.proofs.Images.{table-of-image}
 use Rattle.replay.proofs.Turns.{step-keeps}
-use Rattle.histories.specs.Bytes.{Led, opened, called, bookOf, SameReport, no-room, room, BytesOfBox, BytesDemand3}
+use Rattle.histories.specs.Bytes.{Led, opened, called, bookOf, SameReport, no-room, room, Untouched, BytesOfBox, BytesDemand3}
 
 -- ---- one call more at the end
 
@@ -110,12 +111,31 @@ follows (called {call = call} led x on) = follows-call _ _ _ _ _ _ _ call _ (fol
 
 -- ---- the bytes of one box
 
-bytes-of-box : (h : ℕ) (image answers : List ℕ) (calls : List Call) → Follows h image calls answers → BytesOfBox h image
-bytes-of-box h image answers calls F = record {
-  image-of-table = F .imaged .bytes ∙ ap imageOf (sym (F .imaged .table));
+-- an outcome that changes nothing leaves the image of its table and any list
+untouched : (t : ℕ) (o : Result) (image list image′ list′ : List ℕ) (r : Outcome) → image ≡ imageOf (tableOf image) → Unchanged t (tableOf image) o
+    → Reported o image list r image′ list′ → Untouched (nodeAt (tableOf image) t) image list r image′ list′
+unfolding imageOf numbersOf
+untouched t o image list image′ list′ r imaged u p = record {
+  answer = p .answer ∙ u .answer;
+  node = p .node ∙ u .node;
+  moves = p .count ∙ ap length (u .moves);
+  table-bytes = p .table ∙ rw (u .answer, u .table) (sym imaged);
+  list-bytes = p .moves ∙ rw (u .answer, u .moves);
+}
+
+imaged-by-its-table : {h : ℕ} {image answers : List ℕ} {calls : List Call} → Follows h image calls answers → image ≡ imageOf (tableOf image)
+imaged-by-its-table F = F .imaged .bytes ∙ ap imageOf (sym (F .imaged .table))
+
+bytes-of-box : (h : ℕ) (image answers : List ℕ) (calls : List Call) (B : Book) → Follows h image calls answers → Box h (tableOf image) B
+    → BytesOfBox h image B
+bytes-of-box h image answers calls B F box = record {
+  image-of-table = imaged-by-its-table F;
   next-table = λ call list image′ list′ r on.
       image-next h image list image′ list′ answers calls call r F on .table
       ∙ ap (λ (T : List ℕ). step h T (call (entriesIn list)) .table) (sym (F .imaged .table));
+  repeated-grants = λ call list image′ list′ r on l a v e.
+      let c = call (entriesIn list) in
+      untouched (tenantOf c) (step h (tableOf image) c) image list image′ list′ r (imaged-by-its-table F) (box .holder-repeats c l a v e) on;
 }
 
 -- ---- two boxes
@@ -138,8 +158,8 @@ demand-3-of-bytes h image₁ image₂ answers₁ answers₂ calls₁ calls₂ le
     let both = boxes-of-tables h (history F₁) (history F₂) (F₁ .imaged .table) (F₂ .imaged .table) (F₁ .answered) (F₂ .answered) in
     record {
       boxes = both;
-      bytes-one = bytes-of-box h image₁ answers₁ calls₁ F₁;
-      bytes-two = bytes-of-box h image₂ answers₂ calls₂ F₂;
+      bytes-one = bytes-of-box h image₁ answers₁ calls₁ (bookOf h calls₁ answers₁) F₁ (both .one);
+      bytes-two = bytes-of-box h image₂ answers₂ calls₂ (bookOf h calls₂ answers₂) F₂ (both .two);
       same-reports = λ e call₁ call₂ list₁ list₂ image₁′ image₂′ list₁′ list₂′ r₁ r₂ on₁ on₂ l a₁ a₂ v₁ v₂ n₁ n₂.
           same-report _ 3 _ _ r₁ r₂ _ _ _ _ _ _ _ _ on₁ on₂ (both .same-fate e _ _ l a₁ a₂ v₁ v₂ n₁ n₂);
       same-growths = λ e call₁ call₂ list₁ list₂ image₁′ image₂′ list₁′ list₂′ r₁ r₂ on₁ on₂ l k g₁ g₂ v₁ v₂ n₁ n₂.

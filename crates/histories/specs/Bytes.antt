@@ -1,9 +1,10 @@
--- Demand 3 for the C door, with the growth of document 02, L5: two histories of lent bytes, led on by nothing but what the contracts of the
--- exported functions say of the bytes.
+-- Demand 3 for the C door, with the growth of document 02, L5, and the repeated grant of L6: two histories of lent bytes, led on by nothing but
+-- what the contracts of the exported functions say of the bytes.
 use mathlib.Core.Path.{_≡_}
 use mathlib.Core.List.{List, [], _∷_, _++_}
 use mathlib.Core.Option.{none, some}
 use Prim.Native.Nat.{ℕ, _≤_}
+use Rattle.table.specs.Table.{nodeAt}
 use Rattle.calls.specs.Call.{Call, grant-level, grant-pages, release, grow, tenantOf}
 use Rattle.calls.specs.Step.{step, open-reserve}
 use Rattle.calls.specs.History.{Book, bookFrom, held}
@@ -38,20 +39,32 @@ pub data SameReport (nothing-legal : Type 0) (most : ℕ) (one two : Outcome) : 
   no-room : one .answer ≡ 10 → two .answer ≡ 10 → nothing-legal → SameReport nothing-legal most one two
   room : one .answer ≡ 0 → two .answer ≡ 0 → one .moves ≤ most → two .moves ≤ most → ¬ nothing-legal → SameReport nothing-legal most one two
 
--- the bytes of one box
-pub record BytesOfBox (h : ℕ) (image : List ℕ) : Type 0 where
+-- a report of 0, the node n and no moves, that leaves every byte lent as it was
+pub record Untouched (n : ℕ) (image list : List ℕ) (r : Outcome) (image′ list′ : List ℕ) : Type 0 where
+  pub answer : r .answer ≡ 0
+  pub node : r .node ≡ n
+  pub moves : r .moves ≡ 0
+  pub table-bytes : image′ ≡ image
+  pub list-bytes : list′ ≡ list
+
+-- the bytes of one box, and its book
+pub record BytesOfBox (h : ℕ) (image : List ℕ) (B : Book) : Type 0 where
   -- they are the image of the table that they stand for, and hold nothing else
   pub image-of-table : image ≡ imageOf (tableOf image)
   -- after the next call they stand for the table that `step` leaves
   pub next-table : (call : ℕ → Call) (list image′ list′ : List ℕ) (r : Outcome) → CalledOn h call image list r image′ list′
       → tableOf image′ ≡ step h (tableOf image) (call (entriesIn list)) .table
+  -- a grant of the level that the book has for its tenant, which is a repeated one, names the tenant's node and leaves every byte
+  pub repeated-grants : (call : ℕ → Call) (list image′ list′ : List ℕ) (r : Outcome) → CalledOn h call image list r image′ list′
+      → (l : ℕ) → Asks h (call (entriesIn list)) l → Valid h (call (entriesIn list)) → B (tenantOf (call (entriesIn list))) ≡ some l
+      → Untouched (nodeAt (tableOf image) (tenantOf (call (entriesIn list)))) image list r image′ list′
 
 -- two boxes by their bytes and their books
 pub record BoxesOfBytes (h : ℕ) (image₁ image₂ : List ℕ) (B₁ B₂ : Book) : Type 0 where
   -- demand 3's conclusion, for the tables that the bytes stand for
   pub boxes : Boxes h (tableOf image₁) (tableOf image₂) B₁ B₂
-  pub bytes-one : BytesOfBox h image₁
-  pub bytes-two : BytesOfBox h image₂
+  pub bytes-one : BytesOfBox h image₁ B₁
+  pub bytes-two : BytesOfBox h image₂ B₂
   -- what two requests for one level report next, where the books hold equal sizes and nothing for the two tenants
   pub same-reports : ((l : ℕ) → held B₁ l ≡ held B₂ l) → (call₁ call₂ : ℕ → Call) (list₁ list₂ image₁′ image₂′ list₁′ list₂′ : List ℕ)
       (r₁ r₂ : Outcome) → CalledOn h call₁ image₁ list₁ r₁ image₁′ list₁′ → CalledOn h call₂ image₂ list₂ r₂ image₂′ list₂′
