@@ -32,7 +32,6 @@ pub record Granted (h : ℕ) (T : List ℕ) (c : Call) (l : ℕ) : Type 0 where
 
 pub record Repeated (h : ℕ) (T : List ℕ) (c : Call) (l : ℕ) : Type 0 where
   pub asks : Asks h c l
-  pub tenant : tenantOf c < 4096
   pub holds : 0 < nodeAt T (tenantOf c)
   pub same : level h (nodeAt T (tenantOf c)) ≡ l
   pub outcome : step h T c ≡ repeated T (nodeAt T (tenantOf c))
@@ -94,7 +93,7 @@ module _ (h : ℕ) (T : List ℕ) (s : Sound h T) where
           → step h T c ≡ cond b (repeated T (nodeAt T t)) (granted h T (layoutSet h (oneMore (countsOf h T) l)) t l) → Case h T c
       go true r e o =
           let held = repeats-holds h T t l r in
-          by-repetition l (record { asks = a; tenant = valid-tenant h c v; holds = held .0; same = held .1; outcome = o })
+          by-repetition l (record { asks = a; holds = held .0; same = held .1; outcome = o })
       go false r e o =
           by-grant l (record {
             asks = a;
