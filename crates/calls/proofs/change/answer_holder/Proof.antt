@@ -1,5 +1,6 @@
 -- `calls::change::answer_holder` meets its contract: the node that is held, if it is of the level asked for, and otherwise 8.
-use mathlib.Core.Path.{refl, sym, _∙_}
+use mathlib.Core.Path.{refl}
+use native.Mathlib.Omega.{arith}
 use borrow.Author.Needs.{needs}
 use Rattle.calls.proofs.Changing.{holder-of-level, holder-of-another}
 use Rattle.calls.proofs.Given.{gives-same}
@@ -17,7 +18,7 @@ returns c =
     let x = c .before .before in
     let a = x .before .args in
     λ T. gives-same (c .refused .ensures T)
-    (holder-of-another (a .height) T (a .node) (a .level) (λ e. c .before .if1 .taken (x .level .ensures ∙ e)))
+    (holder-of-another (a .height) T (a .node) (a .level) (λ e. omega (arith, c .before .if1 .taken, x .level .ensures, e)))
 
 none-requires : tie.Need-none-requires
 none-requires c κs = search needs
@@ -27,7 +28,7 @@ returns-2 c =
     let x = c .before .before in
     let a = x .before .args in
     λ T. gives-same (record { answer = refl; plan = c .none .ensures; table = refl })
-    (holder-of-level (a .height) T (a .node) (a .level) (sym (x .level .ensures) ∙ c .before .if1 .left))
+    (holder-of-level (a .height) T (a .node) (a .level) (omega (arith, c .before .if1 .left, x .level .ensures)))
 
 pub answer-holder-spec : {M : Type 1} → statement M
 answer-holder-spec = tie.close (tie.spec level-requires refused-requires returns none-requires returns-2)
