@@ -31,7 +31,7 @@ use Rattle.calls.proofs.OneKind.{entered-grant, grants-do-not-release, 
 use Rattle.calls.proofs.Same.{same-level-unchanged}
 use Rattle.calls.proofs.Repeats.{repeats-if-holder, never-repeats}
 
-asked-holdings : (h : ℕ) (T : List ℕ) (c : Call) (l : ℕ) → Asks h c l → holdings h T c ≡ grant-holdings h T (tenantOf c) l
+pub asked-holdings : (h : ℕ) (T : List ℕ) (c : Call) (l : ℕ) → Asks h c l → holdings h T c ≡ grant-holdings h T (tenantOf c) l
 asked-holdings h T c l by-level = refl
 asked-holdings h T c l by-pages = refl
 
@@ -46,10 +46,10 @@ eqb-turned n m = go (ℕ-discrete n m)
     go (no ne) = rw (ne-eqb n m ne, ne-eqb m n (λ e. ne (sym e)))
 
 module _ (h : ℕ) (T : List ℕ) (B : Book) (K : Kept h T B) where
-  has-node : (t k : ℕ) → B t ≡ some k → 0 < nodeAt T t
+  pub has-node : (t k : ℕ) → B t ≡ some k → 0 < nodeAt T t
   has-node t k e = rw e at (K .agrees t) .0 .above-zero
 
-  has-nothing : (t : ℕ) → B t ≡ none → nodeAt T t ≡ 0
+  pub has-nothing : (t : ℕ) → B t ≡ none → nodeAt T t ≡ 0
   has-nothing t e = rw e at (K .agrees t)
 
   -- the level that the book has is that of the tenant's node
@@ -57,7 +57,7 @@ module _ (h : ℕ) (T : List ℕ) (B : Book) (K : Kept h T B) where
   level-in-book t k e = rw e at (K .agrees t) .1
 
   -- so a grant is a repeated one exactly if it asks for that level
-  repeats-by-book : (t l k : ℕ) → B t ≡ some k → repeats h T t l ≡ eqb k l
+  pub repeats-by-book : (t l k : ℕ) → B t ≡ some k → repeats h T t l ≡ eqb k l
   repeats-by-book t l k e = repeats-if-holder h T t l (has-node t k e) ∙ ap (λ (x : ℕ). eqb x l) (level-in-book t k e)
 
   pub holder-asks : (c : Call) (l k : ℕ) → Asks h c l → Valid h c → B (tenantOf c) ≡ some k → ¬ (k ≡ l) → step h T c .answer ≡ 8

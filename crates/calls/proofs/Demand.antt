@@ -44,7 +44,7 @@ opened h T e = go (first (reserve-checks h T)) refl
     }
     go (suc n) p = absurd (omega (arith, e, ap (λ (m : ℕ). unless m T done .answer) p))
 
-kept-at-opening : (h n : ℕ) → h ≤ 12 → n ≡ 4096 → Kept h (replicate n 0) (λ t. none)
+pub kept-at-opening : (h n : ℕ) → h ≤ 12 → n ≡ 4096 → Kept h (replicate n 0) (λ t. none)
 kept-at-opening h n q e = record {
   height = q;
   entries = length-replicate n 0 ∙ e;
@@ -62,7 +62,7 @@ kept-by-history h H =
 -- ---- two boxes
 
 -- a set that is the one legal and safe set for sizes that both boxes hold
-same-places : (h : ℕ) (T₁ T₂ : List ℕ) (B₁ B₂ : Book) → Box h T₁ B₁ → Box h T₂ B₂ → ((l : ℕ) → held B₁ l ≡ held B₂ l)
+pub same-places : (h : ℕ) (T₁ T₂ : List ℕ) (B₁ B₂ : Book) → Box h T₁ B₁ → Box h T₂ B₂ → ((l : ℕ) → held B₁ l ≡ held B₂ l)
     → (n : ℕ) → occupied T₁ n ≡ occupied T₂ n
 same-places h T₁ T₂ B₁ B₂ b₁ b₂ e = b₂ .only (occupied T₁) (b₁ .within) (b₁ .legal) (b₁ .safe) (λ l. b₁ .sized l ∙ e l)
 
@@ -90,7 +90,7 @@ same-fate h one two o₁ o₂ most e first second few₁ few₂ = go (first .1) 
     go (inr p) (inr q) = room p q (few₁ p) (few₂ q) (λ none-legal. absurd (omega (arith, first .0 .1 none-legal)))
 
 module _ (h : ℕ) (T₁ T₂ : List ℕ) (B₁ B₂ : Book) (b₁ : Box h T₁ B₁) (b₂ : Box h T₂ B₂) (e : (l : ℕ) → held B₁ l ≡ held B₂ l) where
-  same-grant : (c₁ c₂ : Call) (l : ℕ) → Asks h c₁ l → Asks h c₂ l → Valid h c₁ → Valid h c₂ → B₁ (tenantOf c₁) ≡ none → B₂ (tenantOf c₂) ≡ none
+  pub same-grant : (c₁ c₂ : Call) (l : ℕ) → Asks h c₁ l → Asks h c₂ l → Valid h c₁ → Valid h c₂ → B₁ (tenantOf c₁) ≡ none → B₂ (tenantOf c₂) ≡ none
       → SameFate (NoPlacement h B₁ l) 3 (step h T₁ c₁) (step h T₂ c₂)
   same-grant c₁ c₂ l a₁ a₂ v₁ v₂ n₁ n₂ =
       same-fate h (withOne B₁ l) (withOne B₂ l) (step h T₁ c₁) (step h T₂ c₂) 3 (λ m. ap (λ (c : ℕ). c + one-if (eqb m l)) (e m))
@@ -107,7 +107,7 @@ module _ (h : ℕ) (T₁ T₂ : List ℕ) (B₁ B₂ : Book) (b₁ : Box h T₁ 
         e m,
       )
 
-  same-growth : (c₁ c₂ : Call) (l k : ℕ) → Grows c₁ l → Grows c₂ l → Valid h c₁ → Valid h c₂ → B₁ (tenantOf c₁) ≡ some k → B₂ (tenantOf c₂) ≡ some k
+  pub same-growth : (c₁ c₂ : Call) (l k : ℕ) → Grows c₁ l → Grows c₂ l → Valid h c₁ → Valid h c₂ → B₁ (tenantOf c₁) ≡ some k → B₂ (tenantOf c₂) ≡ some k
       → SameFate (NoExchange h B₁ (tenantOf c₁) l) 7 (step h T₁ c₁) (step h T₂ c₂)
   same-growth c₁ c₂ l k g₁ g₂ v₁ v₂ k₁ k₂ =
       same-fate h (held (write (tenantOf c₁) (some l) B₁)) (held (write (tenantOf c₂) (some l) B₂)) (step h T₁ c₁) (step h T₂ c₂) 7

@@ -27,7 +27,7 @@ gives-same {r = r} {T = T} g e = subst (λ (p : Outcome). Gives p r T) e g
 
 -- ---- number, node and moves
 
-number-of-answer : (k node : ℕ) → numberOf (answerOf k node) ≡ k
+pub number-of-answer : (k node : ℕ) → numberOf (answerOf k node) ≡ k
 number-of-answer zero node = refl
 number-of-answer (suc k) node = refl
 

@@ -125,7 +125,7 @@ fn give_up(
 }
 
 // Gives the tenant a block of the level in the place of the one that it has, if it has one, unless there is no room.
-fn place(
+pub fn place(
     height: u16,
     table: &mut [u16],
     tenant: u16,

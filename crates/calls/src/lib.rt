@@ -8,8 +8,8 @@ ghost use Rattle.calls.specs.Value.{callOf, numberOf, nodeIn, answerOf, 
 use table::plan::Plan;
 
 mod carry;
-mod change;
-mod clear;
+pub mod change;
+pub mod clear;
 pub mod request;
 
 // What a call reports: done, with the node that its tenant has now or gave up (0 for an opening), or the number of its refusal.
@@ -50,7 +50,7 @@ pub enum Call {
 
 impl Call {
     // The tenant that the call is for.
-    fn tenant(self) -> u16
+    pub fn tenant(self) -> u16
         ensures { λ r. ⌜ r ≡ tenantOf (callOf self 0) ⌝ }
     {
         match self {
@@ -90,7 +90,7 @@ pub struct Called {
 }
 
 // A refusal has no moves.
-fn refused(number: u16) -> Called
+pub fn refused(number: u16) -> Called
     requires { ⌜ 0 < number ⌝ }
     ensures { λ r. ⌜ ((T : List ℕ) → Gives (Step·refused number T) r T) ⌝ }
 {

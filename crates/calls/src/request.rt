@@ -15,7 +15,7 @@ use refusal::TENANT;
 use table::TENANTS;
 
 // The largest tenant number.
-const LAST_TENANT: u16 = 4095;
+pub const LAST_TENANT: u16 = 4095;
 
 // The number of the first of refusals 1 and 2 that applies, or 0.
 pub fn reserve_refusal(height: u16, length: usize) -> u16

@@ -47,3 +47,9 @@ pub const TOO_SHORT: u16 = 15;
 
 // The journal has more than 65,536 bytes.
 pub const TOO_LONG: u16 = 16;
+
+// The line has 64 tenants.
+pub const LINE_FULL: u16 = 17;
+
+// The tenant waits in line.
+pub const WAITS: u16 = 18;

@@ -1,0 +1,112 @@
+-- `admission::chosen::admit_at` meets its contract: the tenant at the place gets its level, leaves the line, and those in front of it are passed.
+use mathlib.Core.Path.{_≡_, refl, ap₂, _∙_}
+use Prim.Native.Nat.{_<_}
+use native.Mathlib.Omega.{arith}
+use borrow.Author.Needs.{needs}
+use denote.Ref.{now}
+use lib.ListN.{length}
+use Rattle.line.specs.Changes.{InForm}
+use Rattle.line.proofs.Numbers.{length-in-form, count-in-form}
+use Rattle.line.proofs.Ordered.{in-form}
+use Rattle.admission.specs.Value.{lent}
+use Rattle.admission.proofs.Admitting.{form-without, place-without, front-passed}
+use Rattle.admission.proofs.chosen.admit_at.Statement.{statement}
+use Rattle.admission.proofs.chosen.admit_at.Tie as tie
+
+-- the places on the way, each from the next
+
+abbrev before-pass : tie.After-pass → tie.After-take-out
+before-pass x = x .before .before .before .before
+
+abbrev before-take-out : tie.After-take-out → tie.After-run
+before-take-out x = x .before .before .before .before
+
+abbrev started : tie.After-run → tie.Start
+started x = x .before .before .before .before .before .before
+
+form : (s : tie.Start) → InForm (now (s .args .line))
+form s = in-form _ _ _ (s .pre .0)
+
+-- the place lies in the line
+place-inside : (s : tie.Start) → (s .args .place < 64) × (length (now (s .args .line)) ≡ 193)
+place-inside s = (omega (arith, s .pre .1, count-in-form (now (s .args .line)) (form s)), length-in-form (now (s .args .line)) (form s))
+
+mul-tenant : tie.Need-mul-tenant
+mul-tenant c = omega (arith, place-inside (c .before .before))
+
+add-tenant : tie.Need-add-tenant
+add-tenant c = omega (arith, place-inside (c .before .before))
+
+mul-tenant-2 : tie.Need-mul-tenant-2
+mul-tenant-2 c = omega (arith, place-inside (c .before .before))
+
+slice-read-tenant : tie.Need-slice-read-tenant
+slice-read-tenant c = omega (arith, place-inside (c .before .before .before))
+
+mul-level : tie.Need-mul-level
+mul-level c = omega (arith, place-inside (c .before .before .before))
+
+add-level : tie.Need-add-level
+add-level c = omega (arith, place-inside (c .before .before .before))
+
+mul-level-2 : tie.Need-mul-level-2
+mul-level-2 c = omega (arith, place-inside (c .before .before .before))
+
+slice-read-level : tie.Need-slice-read-level
+slice-read-level c = omega (arith, place-inside (c .before .before .before .before))
+
+run-requires : tie.Need-run-requires
+run-requires c κs = search needs
+
+take-out-requires : tie.Need-take-out-requires
+take-out-requires c κs =
+    let s = started (c .before .before .before) in
+    (form s, omega (arith, s .pre .1))
+
+pass-requires : tie.Need-pass-requires
+pass-requires c κs =
+    let s = started (before-take-out (c .before .before .before)) in
+    let a = s .args in
+    let out = c .before .before .before .take-out .ensures in
+    let inside = place-without (a .height) (now (a .table)) (now (a .line)) (s .pre .0) (a .place) (s .pre .1) _ out in
+    (form-without (a .height) (now (a .table)) (now (a .line)) (s .pre .0) (a .place) (s .pre .1) _ out, omega arith)
+
+same-length : tie.Need-same-length
+same-length c = search needs
+
+same-length-2 : tie.Need-same-length-2
+same-length-2 c = search needs
+
+returns : tie.Need-returns
+returns c =
+    let y = before-pass (c .before .before .before) in
+    let s = started (before-take-out y) in
+    let a = s .args in
+    let placed = before-take-out y .run .ensures in
+    let out = y .take-out .ensures in
+    let left = front-passed (a .height) (now (a .table)) (now (a .line)) (s .pre .0) (a .place) (s .pre .1) _ out in
+    record {
+      answer = placed .answer;
+      named = refl;
+      plan = placed .plan;
+      state = ap₂ lent (placed .table) (c .before .before .before .pass .ensures ∙ left);
+    }
+
+pub admit-at-spec : {M : Type 1} → statement M
+admit-at-spec =
+    tie.close
+    (tie.spec
+    mul-tenant
+    add-tenant
+    mul-tenant-2
+    slice-read-tenant
+    mul-level
+    add-level
+    mul-level-2
+    slice-read-level
+    run-requires
+    take-out-requires
+    pass-requires
+    same-length
+    same-length-2
+    returns)

@@ -1,0 +1,11 @@
+pub mod Ways
+pub mod Numbers
+pub mod Leaving
+pub mod Kept
+pub mod Admitting
+pub mod Histories
+pub mod Choosing
+pub mod Waiting
+pub mod Box
+pub mod Demand
+pub mod Twice
