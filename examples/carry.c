@@ -1,5 +1,6 @@
 /*
- * Carries out the planner's moves on real bytes: four pages, three images, and what a grant, a release and a growth make of them.
+ * Carries out the planner's moves on real bytes: four pages, four images, and what a grant, a release, a growth and an admit
+ * make of them.
  *
  *   cc -Iinclude examples/carry.c target/staticlib/libreserve.a -o carry && ./carry
  *
@@ -14,6 +15,7 @@
 enum { HEIGHT = 2, PAGES = 1 << HEIGHT, PAGE_BYTES = 16 };
 
 static uint8_t table[RESERVE_TABLE_BYTES];
+static uint8_t line[RESERVE_LINE_BYTES];
 static uint8_t moves[RESERVE_GROW_MOVES_BYTES];
 
 /* The pages themselves, room for staged tenants, and room for a tenant that grows: as many pages as the reserve has are enough
@@ -79,13 +81,36 @@ static void write_pages(uint16_t tenant, unsigned node, unsigned from) {
     }
 }
 
-/* An image gets a block, the others make way, and then its pages are written. */
-static void start(uint16_t tenant, uint16_t level) {
-    struct reserve_outcome got = reserve_grant_level(HEIGHT, table, sizeof table, moves, sizeof moves, tenant, level);
-    if (got.answer != RESERVE_DONE) exit(1);
+/* An image has got a block: the others make way, and then its pages are written. */
+static void arrive(uint16_t tenant, struct reserve_outcome got) {
     work_list(got.moves);
     write_pages(tenant, got.node, 0);
     show(tenant, "gets", got);
+}
+
+/* An image asks for a block, and waits in line if there is no room. */
+static void start(uint16_t tenant, uint16_t level) {
+    struct reserve_outcome got =
+        reserve_grant_level(HEIGHT, table, sizeof table, line, sizeof line, moves, sizeof moves, tenant, level);
+    if (got.answer == RESERVE_DONE) {
+        arrive(tenant, got);
+    } else if (got.answer == RESERVE_REFUSED_NO_ROOM) {
+        if (reserve_join(HEIGHT, table, sizeof table, line, sizeof line, tenant, level) != RESERVE_DONE) exit(1);
+        printf("tenant %u waits\n", (unsigned)tenant);
+    } else {
+        exit(1);
+    }
+}
+
+/* Lets in whoever waits and fits now, until there is nobody. */
+static void admit_all(void) {
+    for (;;) {
+        struct reserve_admission let_in = reserve_admit(HEIGHT, table, sizeof table, line, sizeof line, moves, sizeof moves);
+        struct reserve_outcome got = {let_in.answer, let_in.node, let_in.moves};
+        if (let_in.answer != RESERVE_DONE) exit(1);
+        if (let_in.tenant == RESERVE_NOBODY) return;
+        arrive(let_in.tenant, got);
+    }
 }
 
 /* An image gets a larger block, or a smaller one. Its old pages are free from the start, so what it wants to keep of them waits
@@ -99,6 +124,7 @@ static void resize(uint16_t tenant, uint16_t level) {
     memcpy(bytes_of(got.node), own, had < length_of(got.node) ? had : length_of(got.node));
     write_pages(tenant, got.node, (unsigned)(had / PAGE_BYTES));
     show(tenant, "has now", got);
+    admit_all();
 }
 
 /* An image gives up its block, whose bytes nobody needs any more, and the others close up. */
@@ -107,15 +133,18 @@ static void stop(uint16_t tenant) {
     if (got.answer != RESERVE_DONE) exit(1);
     work_list(got.moves);
     show(tenant, "leaves", got);
+    admit_all();
 }
 
 int main(void) {
-    if (reserve_open(HEIGHT, table, sizeof table) != RESERVE_DONE) return 1;
+    if (reserve_open(HEIGHT, table, sizeof table, line, sizeof line) != RESERVE_DONE) return 1;
     start(0, 1);
     start(1, 0);
     start(2, 0);
     stop(1);
     resize(2, 1);
     resize(0, 0);
+    start(3, 1);
+    stop(2);
     return 0;
 }

@@ -27,6 +27,24 @@
  * given back, so there is room if the pages of the others and of the new block are no more than the reserve has. If there is no
  * room, it keeps its block.
  *
+ * THE LINE
+ *
+ * A tenant for whom there is no room may wait for a level: up to 64 wait, the oldest first. reserve_join puts a tenant at the end
+ * of the line, reserve_withdraw takes it out, and reserve_admit grants the first from the front whose block fits, just as a
+ * grant of its level would, and says whom. So, after a grant that is answered 10 (RESERVE_REFUSED_NO_ROOM), join; and after each
+ * release, growth, join or withdrawal, and after each admit that granted somebody, call reserve_admit, until it names nobody and
+ * node 0. That is after at most 64 grants.
+ *
+ * Nobody waits for ever behind smaller images. Each grant that gives a block, by reserve_admit or direct, adds one to the passed
+ * count of every older tenant that still waits; a direct grant counts as last in line, so it passes everybody. Behind a tenant
+ * that was passed eight times all are barred: an admit grants nobody behind it, and a direct grant is answered 10, even if its
+ * block would fit. So nobody is passed more than eight times, and when an admit names nobody, the oldest that was passed eight
+ * times lacks its pages. A grant that repeats an earlier start is neither barred nor counted.
+ *
+ * A tenant that waits holds nothing: a join by one that holds a block is answered 8, and a grant or another join to one that
+ * waits 18. A withdrawal leaves the counts of the others, and who joins again stands at the end, with count 0. A release and a
+ * growth take no line, and are not held up by it.
+ *
  * THE MOVES
  *
  * The new pages of a mover may be pages that another mover has not left yet. Whoever just copies one tenant after the other
@@ -51,12 +69,12 @@
  *
  * WHAT IS LENT
  *
- * There is no state but the table, which is the caller's. Every function reads and writes only the bytes that it is lent,
+ * There is no state but the table and the line, which are the caller's. Every function reads and writes only the bytes that it is lent,
  * only while it runs, and keeps no pointer. It allocates nothing, calls nothing but memcpy and memset, uses less than
  * 32 KiB of stack and always returns. A pointer may be null if its length is 0.
  *
- * The table and the moves of one call must not overlap, nor the table and the map of reserve_draw; they may lie side by
- * side. Until a call returns, nobody else may write any of the bytes that it is lent, or read those that it is lent to
+ * The table, the line and the moves of one call must not overlap, nor the table and the map of reserve_draw; they may lie side
+ * by side. Until a call returns, nobody else may write any of the bytes that it is lent, or read those that it is lent to
  * write (the pointers without const). Calls on different bytes, and calls that only read the same bytes, may run at the
  * same time.
  *
@@ -65,6 +83,8 @@
  * All lengths and offsets count bytes. Numbers of two bytes have the low byte first, whatever the machine's own order:
  *
  *   table   RESERVE_TABLE_BYTES bytes: for each tenant, by number, two bytes with its node, or 0 if it holds nothing
+ *   line    RESERVE_LINE_BYTES bytes, numbers of two bytes: how many wait; then, of each, the oldest first, the tenant, the level
+ *           that it waits for and its passed count; then zeros
  *   moves   RESERVE_MOVE_BYTES bytes for each move: the tenant, its old node, its new node, and 1 if it is staged, else 0;
  *           two bytes each
  *   map     RESERVE_MAP_BYTES bytes: page i is bit i mod 8 of byte i / 8, and bit 0 weighs 1; set if a held block covers the page
@@ -74,7 +94,7 @@
  *
  * Every function answers 0, RESERVE_DONE, or the number of a refusal. The conditions are tested in the order of their
  * numbers, those of the arguments that the function has, and the first that holds is answered. (For a journal, 16 comes
- * before 11.) A refused call changes no byte; its other results are 0 unless said otherwise.
+ * before 11; 18 comes right after 8, and 17 last.) A refused call changes no byte; its other results are 0 unless said otherwise.
  *
  * THE ARCHIVE
  *
@@ -89,11 +109,12 @@
  *   #include "reserve.h"
  *
  *   static uint8_t table[RESERVE_TABLE_BYTES];
+ *   static uint8_t line[RESERVE_LINE_BYTES];
  *   static uint8_t moves[RESERVE_MOVES_BYTES];
  *
  *   int main(void) {
- *       if (reserve_open(12, table, sizeof table) != RESERVE_DONE) return 1;
- *       struct reserve_outcome got = reserve_grant_pages(12, table, sizeof table, moves, sizeof moves, 7, 100);
+ *       if (reserve_open(12, table, sizeof table, line, sizeof line) != RESERVE_DONE) return 1;
+ *       struct reserve_outcome got = reserve_grant_pages(12, table, sizeof table, line, sizeof line, moves, sizeof moves, 7, 100);
  *       if (got.answer != RESERVE_DONE) return 1;
  *       for (unsigned i = 0; i < got.moves; i++) {
  *           const uint8_t *m = moves + RESERVE_MOVE_BYTES * i;
@@ -120,18 +141,24 @@ extern "C" {
  * minor number if something is only added. 2.0: a grant by pages has a guard page. 3.0: a move has a fourth number, and the
  * moves stand in an order in which they can be carried out. 4.0: a grant of 0 pages gets 16 pages, and no longer one. 5.0: a
  * tenant can grow or shrink, and a journal has records of that. 6.0: a grant of the level that its tenant holds answers 0 and the
- * tenant's node, and no longer 8. */
-#define RESERVE_VERSION_MAJOR 6
+ * tenant's node, and no longer 8. 7.0: there is a line, and a journal has records of joins, admits and withdrawals; opening and
+ * grants take the line. */
+#define RESERVE_VERSION_MAJOR 7
 #define RESERVE_VERSION_MINOR 0
 #define RESERVE_VERSION (1000 * RESERVE_VERSION_MAJOR + RESERVE_VERSION_MINOR)
 
-/* The greatest height, and the number of tenants. */
+/* The greatest height, the number of tenants, the most that wait, how often one that waits may be passed, and what stands for
+ * no tenant. */
 #define RESERVE_MAX_HEIGHT 12
 #define RESERVE_TENANTS 4096
+#define RESERVE_LINE_PLACES 64
+#define RESERVE_MOST_PASSES 8
+#define RESERVE_NOBODY 65535
 
-/* The bytes of a table, of one move, of the moves that have to be lent to a grant or a release (at least) and to a growth, of a
- * page map, and of the longest record. */
+/* The bytes of a table, of a line, of one move, of the moves that have to be lent to a grant, an admit or a release (at least) and
+ * to a growth, of a page map, and of the longest record. */
 #define RESERVE_TABLE_BYTES 8192
+#define RESERVE_LINE_BYTES 386
 #define RESERVE_MOVE_BYTES 8
 #define RESERVE_MOVES_BYTES 32
 #define RESERVE_GROW_MOVES_BYTES 56
@@ -145,22 +172,26 @@ extern "C" {
 enum reserve_answer {
     RESERVE_DONE = 0,
     RESERVE_REFUSED_HEIGHT = 1,        /* the height is above 12 */
-    RESERVE_REFUSED_TABLE_LENGTH = 2,  /* the table is not of 8192 bytes */
+    RESERVE_REFUSED_TABLE_LENGTH = 2,  /* the table is not of 8192 bytes, or the line not of 386 */
     RESERVE_REFUSED_MOVES = 3,         /* fewer than 32 bytes are lent for the moves, or fewer than 56 for those of a growth */
     RESERVE_REFUSED_TENANT = 4,        /* the tenant is above 4095 */
     RESERVE_REFUSED_LEVEL = 5,         /* the level is above the height */
     RESERVE_REFUSED_PAGES = 6,         /* the pages with their guard page are more than the reserve has: 2^h or more are named */
-    RESERVE_REFUSED_NOT_IN_ORDER = 7,  /* the table is none that this planner leaves at this height; or a number is no node */
-    RESERVE_REFUSED_HOLDS = 8,         /* a grant to a tenant that holds a block of another level */
-    RESERVE_REFUSED_HOLDS_NONE = 9,    /* a release or a growth by a tenant that holds none */
+    RESERVE_REFUSED_NOT_IN_ORDER = 7,  /* the table is none that this planner leaves at this height; or the line has more than 64,
+                                          other than zeros behind them, a count above 8, a level above the height, or a tenant
+                                          above 4095, twice or holding a block; or a number is no node */
+    RESERVE_REFUSED_HOLDS = 8,         /* a grant to a tenant that holds a block of another level, or a join by one that holds any */
+    RESERVE_REFUSED_HOLDS_NONE = 9,    /* a release or a growth by a tenant that holds none, or a withdrawal by one that does not wait */
     RESERVE_REFUSED_NO_ROOM = 10,      /* the pages held and the new block are more than the reserve has; of a growth, those of the
-                                          others and its new block */
+                                          others and its new block; or of a direct grant, somebody in line was passed eight times */
     RESERVE_REFUSED_NO_OPEN = 11,      /* the journal is empty, or its first record is no open */
     RESERVE_REFUSED_UNKNOWN_KIND = 12, /* a record of a kind that there is not */
     RESERVE_REFUSED_CUT_OFF = 13,      /* the journal ends inside a record */
     RESERVE_REFUSED_OPEN_AGAIN = 14,   /* an open record that is not the first */
     RESERVE_REFUSED_TOO_SHORT = 15,    /* the bytes lent for a map or a record are too few */
-    RESERVE_REFUSED_TOO_LONG = 16      /* the journal has more than 65536 bytes */
+    RESERVE_REFUSED_TOO_LONG = 16,     /* the journal has more than 65536 bytes */
+    RESERVE_REFUSED_LINE_FULL = 17,    /* 64 wait already */
+    RESERVE_REFUSED_WAITS = 18         /* a grant or a join to a tenant that waits */
 };
 
 /* The kinds of a journal's records, and the bodies that follow the byte of kind. */
@@ -170,13 +201,24 @@ enum reserve_kind {
     RESERVE_KIND_GRANT_LEVEL = 2, /* tenant, two bytes; level, one byte */
     RESERVE_KIND_GRANT_PAGES = 3, /* tenant, two bytes; pages, two bytes */
     RESERVE_KIND_RELEASE = 4,     /* tenant, two bytes */
-    RESERVE_KIND_GROW = 5         /* tenant, two bytes; level, one byte */
+    RESERVE_KIND_GROW = 5,        /* tenant, two bytes; level, one byte */
+    RESERVE_KIND_JOIN = 9,        /* tenant, two bytes; level, one byte */
+    RESERVE_KIND_ADMIT = 10,      /* nothing */
+    RESERVE_KIND_WITHDRAW = 11    /* tenant, two bytes */
 };
 
 /* What a grant, a release or a growth reports. */
 struct reserve_outcome {
     uint16_t answer; /* enum reserve_answer */
     uint16_t node;   /* the tenant's node, or the node given up */
+    uint16_t moves;  /* how many moves stand at the front of the bytes lent for them */
+};
+
+/* What an admit reports. */
+struct reserve_admission {
+    uint16_t answer; /* enum reserve_answer: 0, 1 to 3 or 7 */
+    uint16_t tenant; /* whom it granted, or RESERVE_NOBODY */
+    uint16_t node;   /* that tenant's node, or 0 */
     uint16_t moves;  /* how many moves stand at the front of the bytes lent for them */
 };
 
@@ -197,8 +239,8 @@ struct reserve_counted {
 struct reserve_reading {
     uint16_t answer; /* enum reserve_answer: 0, or 11 to 14 or 16 */
     uint16_t kind;   /* enum reserve_kind: 0 past the last byte */
-    uint16_t who;    /* the height of an open, else the tenant */
-    uint16_t size;   /* the level or the pages of a grant, the level of a growth, else 0 */
+    uint16_t who;    /* the height of an open, else the tenant; 0 for an admit */
+    uint16_t size;   /* the level or the pages of a grant, the level of a growth or a join, else 0 */
     size_t offset;   /* where the next record begins; past the last byte, the offset asked; of a refusal, the offset of the
                         record that it concerns (0 for 11 and 16) */
 };
@@ -209,19 +251,21 @@ struct reserve_written {
     size_t length;   /* how many bytes the record has taken */
 };
 
-/* Opens a reserve: every byte of the table becomes 0. Answers 0, 1 or 2. */
-uint16_t reserve_open(uint16_t height, uint8_t *table, size_t table_length);
+/* Opens a reserve: every byte of the table and of the line becomes 0. Answers 0, 1 or 2. */
+uint16_t reserve_open(uint16_t height, uint8_t *table, size_t table_length, uint8_t *line, size_t line_length);
 
-/* Grants a tenant a block of 2^level pages; one that holds such a block keeps it, without moves. Answers 0, or 1 to 5, 7, 8 or
- * 10. */
-struct reserve_outcome reserve_grant_level(uint16_t height, uint8_t *table, size_t table_length, uint8_t *moves,
-                                           size_t moves_length, uint16_t tenant, uint16_t level);
+/* Grants a tenant a block of 2^level pages; one that holds such a block keeps it, without moves. Answers 0, or 1 to 5, 7, 8, 18
+ * or 10. */
+struct reserve_outcome reserve_grant_level(uint16_t height, uint8_t *table, size_t table_length, uint8_t *line,
+                                           size_t line_length, uint8_t *moves, size_t moves_length, uint16_t tenant,
+                                           uint16_t level);
 
 /* Grants a tenant the smallest block that has so many pages and one more, the guard page; 0 pages get a block of 16 pages, or the
  * whole of a reserve under height 4. A tenant that holds a block of just that size keeps it, without moves. Answers 0, or 1 to 4,
- * 6 to 8 or 10; 6 never for 0 pages. */
-struct reserve_outcome reserve_grant_pages(uint16_t height, uint8_t *table, size_t table_length, uint8_t *moves,
-                                           size_t moves_length, uint16_t tenant, uint16_t pages);
+ * 6 to 8, 18 or 10; 6 never for 0 pages. */
+struct reserve_outcome reserve_grant_pages(uint16_t height, uint8_t *table, size_t table_length, uint8_t *line,
+                                           size_t line_length, uint8_t *moves, size_t moves_length, uint16_t tenant,
+                                           uint16_t pages);
 
 /* Releases a tenant's block. Answers 0, or 1 to 4, 7 or 9. */
 struct reserve_outcome reserve_release(uint16_t height, uint8_t *table, size_t table_length, uint8_t *moves,
@@ -231,6 +275,21 @@ struct reserve_outcome reserve_release(uint16_t height, uint8_t *table, size_t t
  * moves. Takes RESERVE_GROW_MOVES_BYTES for the moves. Answers 0, or 1 to 5, 7, 9 or 10. */
 struct reserve_outcome reserve_grow(uint16_t height, uint8_t *table, size_t table_length, uint8_t *moves,
                                     size_t moves_length, uint16_t tenant, uint16_t level);
+
+/* Puts a tenant at the end of the line, to wait for a block of 2^level pages, whether or not there is room for one. Answers 0, or 1,
+ * 2, 4, 5, 7, 8, 18 or 17. */
+uint16_t reserve_join(uint16_t height, const uint8_t *table, size_t table_length, uint8_t *line, size_t line_length,
+                      uint16_t tenant, uint16_t level);
+
+/* Grants the first from the front of the line that fits and is not behind one that was passed eight times the block that it waits
+ * for, and takes it out of the line; where there is none, it changes nothing and answers 0, RESERVE_NOBODY and node 0. Answers 0,
+ * or 1 to 3 or 7. */
+struct reserve_admission reserve_admit(uint16_t height, uint8_t *table, size_t table_length, uint8_t *line, size_t line_length,
+                                       uint8_t *moves, size_t moves_length);
+
+/* Takes a tenant out of the line. Answers 0, or 1, 2, 4, 7 or 9. */
+uint16_t reserve_withdraw(uint16_t height, const uint8_t *table, size_t table_length, uint8_t *line, size_t line_length,
+                          uint16_t tenant);
 
 /* The pages that a node covers in a reserve of this height. Answers 0; 1; or 7 if the tree has no such node: 0, or above
  * 2^(h+1) - 1. */
@@ -247,12 +306,16 @@ struct reserve_counted reserve_count(const uint8_t *map, size_t map_length);
  * stand, whether or not a call would take them. */
 struct reserve_reading reserve_read(const uint8_t *journal, size_t journal_length, size_t offset);
 
-/* Each writes one record at the front of the lent bytes and leaves those after it: 2, 4, 5, 3 and 4 bytes. Answers 0 or 15. */
+/* Each writes one record at the front of the lent bytes and leaves those after it: 2, 4, 5, 3, 4, 4, 1 and 3 bytes. Answers 0 or
+ * 15. */
 struct reserve_written reserve_write_open(uint8_t height, uint8_t *out, size_t out_length);
 struct reserve_written reserve_write_grant_level(uint16_t tenant, uint8_t level, uint8_t *out, size_t out_length);
 struct reserve_written reserve_write_grant_pages(uint16_t tenant, uint16_t pages, uint8_t *out, size_t out_length);
 struct reserve_written reserve_write_release(uint16_t tenant, uint8_t *out, size_t out_length);
 struct reserve_written reserve_write_grow(uint16_t tenant, uint8_t level, uint8_t *out, size_t out_length);
+struct reserve_written reserve_write_join(uint16_t tenant, uint8_t level, uint8_t *out, size_t out_length);
+struct reserve_written reserve_write_admit(uint8_t *out, size_t out_length);
+struct reserve_written reserve_write_withdraw(uint16_t tenant, uint8_t *out, size_t out_length);
 
 #ifdef __cplusplus
 }

@@ -36,6 +36,18 @@ def growth(tenant, level):
     return struct.pack("<BHB", 5, tenant, level)
 
 
+def join(tenant, level):
+    return struct.pack("<BHB", 9, tenant, level)
+
+
+def admit():
+    return b"\x0a"
+
+
+def withdrawal(tenant):
+    return struct.pack("<BH", 11, tenant)
+
+
 # Programs
 
 

@@ -1,23 +1,27 @@
-//! Tables and moves as bytes, the low byte first.
+//! Tables, lines and moves as bytes, the low byte first.
 
+use crate::line::NUMBERS;
 use crate::plan::Plan;
 use crate::TENANTS;
 
-/// The bytes of a table.
+/// The bytes of a table, and of a line.
 pub const TABLE_BYTES: usize = 2 * TENANTS;
+pub const LINE_BYTES: usize = 2 * NUMBERS;
 
 /// The bytes of a move.
 pub const MOVE_BYTES: usize = 8;
 
-pub fn decode(image: &[u8], table: &mut [u16; TENANTS]) {
-    for (node, bytes) in table.iter_mut().zip(image.as_chunks().0) {
-        *node = u16::from_le_bytes(*bytes);
+pub fn decode<const N: usize>(image: &[u8]) -> [u16; N] {
+    let mut numbers = [0; N];
+    for (number, bytes) in numbers.iter_mut().zip(image.as_chunks().0) {
+        *number = u16::from_le_bytes(*bytes);
     }
+    numbers
 }
 
-pub fn encode(table: &[u16; TENANTS], image: &mut [u8]) {
-    for (node, bytes) in table.iter().zip(image.as_chunks_mut().0) {
-        *bytes = node.to_le_bytes();
+pub fn encode<const N: usize>(numbers: &[u16; N], image: &mut [u8]) {
+    for (number, bytes) in numbers.iter().zip(image.as_chunks_mut().0) {
+        *bytes = number.to_le_bytes();
     }
 }
 

@@ -10,6 +10,7 @@ mod carrying;
 pub mod door;
 mod image;
 mod layout;
+mod line;
 mod page_map;
 mod plan;
 mod survey;

@@ -1,16 +1,15 @@
-//! That all planners give the same answers, tables, moves and maps, before anything is timed.
+//! That all planners give the same answers, tables, lines, moves and maps, before anything is timed.
 
 use oracle::generate;
 use oracle::page_map::MAP_BYTES;
 use oracle::planner::Request;
 use oracle::random::Random;
-use oracle::subject::{Reach, TABLE_BYTES};
-use same::door::Outcome;
+use oracle::subject::{Reach, LINE_BYTES, TABLE_BYTES};
 
 use crate::contestant::{Contestant, Library, Same, Second};
 use crate::counting;
 use crate::history::{counted, Counted};
-use crate::input::{Ask, Input, Lent};
+use crate::input::{Ask, Input, Lent, Report};
 use crate::plot;
 use crate::rows::{rows, Row, SEED};
 
@@ -59,9 +58,9 @@ fn check_inputs(inputs: &[Input]) -> Checked {
     Ok(inputs.len())
 }
 
-/// Makes the calls of a history, and after each of them draws and counts the map and tries a damaged table.
+/// Makes the calls of a history, and after each of them draws and counts the map and tries a damaged table and a damaged line.
 fn check_history(height: u16, asks: &[Ask], random: &mut Random) -> Checked {
-    let mut lent = Lent::new([0; TABLE_BYTES]);
+    let mut lent = Lent::new([0; TABLE_BYTES], [0; LINE_BYTES]);
     for &ask in asks {
         lent = compare(height, ask, &lent)?;
         let drawn = compare(height, Ask::Map, &lent)?;
@@ -69,8 +68,11 @@ fn check_history(height: u16, asks: &[Ask], random: &mut Random) -> Checked {
         let mut damaged = lent.clone();
         damaged.table[random.index(TABLE_BYTES)] ^= 1 << random.below(8);
         compare(height, ask, &damaged)?;
+        let mut damaged = lent.clone();
+        damaged.line[random.index(LINE_BYTES)] ^= 1 << random.below(8);
+        compare(height, ask, &damaged)?;
     }
-    Ok(4 * asks.len())
+    Ok(5 * asks.len())
 }
 
 /// Counts maps of bytes drawn at random.
@@ -124,6 +126,12 @@ fn random_asks(height: u16, random: &mut Random) -> Vec<Ask> {
             tenant: narrow(tenant),
             level: narrow(level),
         },
+        Request::Join { tenant, level } => Ask::Join {
+            tenant: narrow(tenant),
+            level: narrow(level),
+        },
+        Request::Admit => Ask::Admit,
+        Request::Withdraw { tenant } => Ask::Withdraw { tenant: narrow(tenant) },
     };
     history.calls.iter().map(|call| ask(call.request)).collect()
 }
@@ -152,8 +160,8 @@ fn compare(height: u16, ask: Ask, lent: &Lent) -> Result<Lent, String> {
     Ok(after)
 }
 
-fn answer<C: Contestant>(height: u16, ask: Ask, lent: &Lent) -> (Outcome, Lent) {
+fn answer<C: Contestant>(height: u16, ask: Ask, lent: &Lent) -> (Report, Lent) {
     let mut lent = lent.clone();
-    let outcome = ask.put_to::<C>(height, &mut lent);
-    (outcome, lent)
+    let report = ask.put_to::<C>(height, &mut lent);
+    (report, lent)
 }

@@ -1,7 +1,7 @@
 //! The planners that are compared, behind one set of calls.
 
 use oracle::subject::{Oracle, Subject};
-use same::door::{self, Counted, Outcome};
+use same::door::{self, Admission, Counted, Outcome};
 
 // Not all of them are timed.
 #[allow(dead_code)]
@@ -10,11 +10,21 @@ mod functions;
 
 /// A planner that is timed.
 pub trait Contestant {
-    fn open(height: u16, table: &mut [u8]) -> u16;
-    fn grant(height: u16, table: &mut [u8], moves: &mut [u8], tenant: u16, level: u16) -> Outcome;
-    fn grant_pages(height: u16, table: &mut [u8], moves: &mut [u8], tenant: u16, pages: u16) -> Outcome;
+    fn open(height: u16, table: &mut [u8], line: &mut [u8]) -> u16;
+    fn grant(height: u16, table: &mut [u8], line: &mut [u8], moves: &mut [u8], tenant: u16, level: u16) -> Outcome;
+    fn grant_pages(
+        height: u16,
+        table: &mut [u8],
+        line: &mut [u8],
+        moves: &mut [u8],
+        tenant: u16,
+        pages: u16,
+    ) -> Outcome;
     fn release(height: u16, table: &mut [u8], moves: &mut [u8], tenant: u16) -> Outcome;
     fn grow(height: u16, table: &mut [u8], moves: &mut [u8], tenant: u16, level: u16) -> Outcome;
+    fn join(height: u16, table: &[u8], line: &mut [u8], tenant: u16, level: u16) -> u16;
+    fn admit(height: u16, table: &mut [u8], line: &mut [u8], moves: &mut [u8]) -> Admission;
+    fn withdraw(height: u16, table: &[u8], line: &mut [u8], tenant: u16) -> u16;
     fn draw(height: u16, table: &[u8], map: &mut [u8]) -> u16;
     fn count(map: &[u8]) -> Counted;
 }
@@ -34,23 +44,54 @@ impl Library {
 
 // The functions are lent the bytes that each pointer and length name, for as long as the call lasts.
 impl Contestant for Library {
-    fn open(height: u16, table: &mut [u8]) -> u16 {
-        unsafe { functions::reserve_open(height, table.as_mut_ptr(), table.len()) }
+    fn open(height: u16, table: &mut [u8], line: &mut [u8]) -> u16 {
+        let (table, table_length) = (table.as_mut_ptr(), table.len());
+        let (line, line_length) = (line.as_mut_ptr(), line.len());
+        unsafe { functions::reserve_open(height, table, table_length, line, line_length) }
     }
 
-    fn grant(height: u16, table: &mut [u8], moves: &mut [u8], tenant: u16, level: u16) -> Outcome {
+    fn grant(height: u16, table: &mut [u8], line: &mut [u8], moves: &mut [u8], tenant: u16, level: u16) -> Outcome {
         let (table, table_length) = (table.as_mut_ptr(), table.len());
+        let (line, line_length) = (line.as_mut_ptr(), line.len());
         let (moves, moves_length) = (moves.as_mut_ptr(), moves.len());
         Library::outcome(unsafe {
-            functions::reserve_grant_level(height, table, table_length, moves, moves_length, tenant, level)
+            functions::reserve_grant_level(
+                height,
+                table,
+                table_length,
+                line,
+                line_length,
+                moves,
+                moves_length,
+                tenant,
+                level,
+            )
         })
     }
 
-    fn grant_pages(height: u16, table: &mut [u8], moves: &mut [u8], tenant: u16, pages: u16) -> Outcome {
+    fn grant_pages(
+        height: u16,
+        table: &mut [u8],
+        line: &mut [u8],
+        moves: &mut [u8],
+        tenant: u16,
+        pages: u16,
+    ) -> Outcome {
         let (table, table_length) = (table.as_mut_ptr(), table.len());
+        let (line, line_length) = (line.as_mut_ptr(), line.len());
         let (moves, moves_length) = (moves.as_mut_ptr(), moves.len());
         Library::outcome(unsafe {
-            functions::reserve_grant_pages(height, table, table_length, moves, moves_length, tenant, pages)
+            functions::reserve_grant_pages(
+                height,
+                table,
+                table_length,
+                line,
+                line_length,
+                moves,
+                moves_length,
+                tenant,
+                pages,
+            )
         })
     }
 
@@ -70,6 +111,32 @@ impl Contestant for Library {
         })
     }
 
+    fn join(height: u16, table: &[u8], line: &mut [u8], tenant: u16, level: u16) -> u16 {
+        let (table, table_length) = (table.as_ptr(), table.len());
+        let (line, line_length) = (line.as_mut_ptr(), line.len());
+        unsafe { functions::reserve_join(height, table, table_length, line, line_length, tenant, level) }
+    }
+
+    fn admit(height: u16, table: &mut [u8], line: &mut [u8], moves: &mut [u8]) -> Admission {
+        let (table, table_length) = (table.as_mut_ptr(), table.len());
+        let (line, line_length) = (line.as_mut_ptr(), line.len());
+        let (moves, moves_length) = (moves.as_mut_ptr(), moves.len());
+        let admission =
+            unsafe { functions::reserve_admit(height, table, table_length, line, line_length, moves, moves_length) };
+        Admission {
+            answer: admission.answer,
+            tenant: admission.tenant,
+            node: admission.node,
+            moves: admission.moves,
+        }
+    }
+
+    fn withdraw(height: u16, table: &[u8], line: &mut [u8], tenant: u16) -> u16 {
+        let (table, table_length) = (table.as_ptr(), table.len());
+        let (line, line_length) = (line.as_mut_ptr(), line.len());
+        unsafe { functions::reserve_withdraw(height, table, table_length, line, line_length, tenant) }
+    }
+
     fn draw(height: u16, table: &[u8], map: &mut [u8]) -> u16 {
         unsafe { functions::reserve_draw(height, table.as_ptr(), table.len(), map.as_mut_ptr(), map.len()) }
     }
@@ -87,16 +154,23 @@ impl Contestant for Library {
 pub struct Same;
 
 impl Contestant for Same {
-    fn open(height: u16, table: &mut [u8]) -> u16 {
-        door::same_open(height, table)
+    fn open(height: u16, table: &mut [u8], line: &mut [u8]) -> u16 {
+        door::same_open(height, table, line)
     }
 
-    fn grant(height: u16, table: &mut [u8], moves: &mut [u8], tenant: u16, level: u16) -> Outcome {
-        door::same_grant_level(height, table, moves, tenant, level)
+    fn grant(height: u16, table: &mut [u8], line: &mut [u8], moves: &mut [u8], tenant: u16, level: u16) -> Outcome {
+        door::same_grant_level(height, table, line, moves, tenant, level)
     }
 
-    fn grant_pages(height: u16, table: &mut [u8], moves: &mut [u8], tenant: u16, pages: u16) -> Outcome {
-        door::same_grant_pages(height, table, moves, tenant, pages)
+    fn grant_pages(
+        height: u16,
+        table: &mut [u8],
+        line: &mut [u8],
+        moves: &mut [u8],
+        tenant: u16,
+        pages: u16,
+    ) -> Outcome {
+        door::same_grant_pages(height, table, line, moves, tenant, pages)
     }
 
     fn release(height: u16, table: &mut [u8], moves: &mut [u8], tenant: u16) -> Outcome {
@@ -105,6 +179,18 @@ impl Contestant for Same {
 
     fn grow(height: u16, table: &mut [u8], moves: &mut [u8], tenant: u16, level: u16) -> Outcome {
         door::same_grow(height, table, moves, tenant, level)
+    }
+
+    fn join(height: u16, table: &[u8], line: &mut [u8], tenant: u16, level: u16) -> u16 {
+        door::same_join(height, table, line, tenant, level)
+    }
+
+    fn admit(height: u16, table: &mut [u8], line: &mut [u8], moves: &mut [u8]) -> Admission {
+        door::same_admit(height, table, line, moves)
+    }
+
+    fn withdraw(height: u16, table: &[u8], line: &mut [u8], tenant: u16) -> u16 {
+        door::same_withdraw(height, table, line, tenant)
     }
 
     fn draw(height: u16, table: &[u8], map: &mut [u8]) -> u16 {
@@ -135,16 +221,23 @@ impl Second {
 }
 
 impl Contestant for Second {
-    fn open(height: u16, table: &mut [u8]) -> u16 {
-        narrow(Oracle.open(height.into(), table))
+    fn open(height: u16, table: &mut [u8], line: &mut [u8]) -> u16 {
+        narrow(Oracle.open(height.into(), table, line))
     }
 
-    fn grant(height: u16, table: &mut [u8], moves: &mut [u8], tenant: u16, level: u16) -> Outcome {
-        Second::outcome(Oracle.grant_level(height.into(), table, moves, tenant.into(), level.into()))
+    fn grant(height: u16, table: &mut [u8], line: &mut [u8], moves: &mut [u8], tenant: u16, level: u16) -> Outcome {
+        Second::outcome(Oracle.grant_level(height.into(), table, line, moves, tenant.into(), level.into()))
     }
 
-    fn grant_pages(height: u16, table: &mut [u8], moves: &mut [u8], tenant: u16, pages: u16) -> Outcome {
-        Second::outcome(Oracle.grant_pages(height.into(), table, moves, tenant.into(), pages.into()))
+    fn grant_pages(
+        height: u16,
+        table: &mut [u8],
+        line: &mut [u8],
+        moves: &mut [u8],
+        tenant: u16,
+        pages: u16,
+    ) -> Outcome {
+        Second::outcome(Oracle.grant_pages(height.into(), table, line, moves, tenant.into(), pages.into()))
     }
 
     fn release(height: u16, table: &mut [u8], moves: &mut [u8], tenant: u16) -> Outcome {
@@ -153,6 +246,24 @@ impl Contestant for Second {
 
     fn grow(height: u16, table: &mut [u8], moves: &mut [u8], tenant: u16, level: u16) -> Outcome {
         Second::outcome(Oracle.grow(height.into(), table, moves, tenant.into(), level.into()))
+    }
+
+    fn join(height: u16, table: &[u8], line: &mut [u8], tenant: u16, level: u16) -> u16 {
+        narrow(Oracle.join(height.into(), table, line, tenant.into(), level.into()))
+    }
+
+    fn admit(height: u16, table: &mut [u8], line: &mut [u8], moves: &mut [u8]) -> Admission {
+        let reply = Oracle.admit(height.into(), table, line, moves);
+        Admission {
+            answer: narrow(reply.answer),
+            tenant: narrow(reply.tenant),
+            node: narrow(reply.node),
+            moves: narrow(reply.moves),
+        }
+    }
+
+    fn withdraw(height: u16, table: &[u8], line: &mut [u8], tenant: u16) -> u16 {
+        narrow(Oracle.withdraw(height.into(), table, line, tenant.into()))
     }
 
     fn draw(height: u16, table: &[u8], map: &mut [u8]) -> u16 {

@@ -6,13 +6,12 @@
 use std::error::Error;
 use std::hint::black_box;
 
-use oracle::subject::TABLE_BYTES;
-use same::door::Outcome;
+use oracle::subject::{LINE_BYTES, TABLE_BYTES};
 
 use crate::contestant::{Contestant, Library, Same};
 use crate::counting::{self, WAYS};
 use crate::history::{counted, Counted};
-use crate::input::{Ask, Lent, Map};
+use crate::input::{Ask, Lent, Map, Report};
 use crate::pass::bare_pass;
 use crate::rows::rows;
 
@@ -55,7 +54,7 @@ pub fn make_calls() {
                 both(set, height.into(), height, input.ask, &input.lent);
             }
         }
-        let mut lent = Lent::new([0; TABLE_BYTES]);
+        let mut lent = Lent::new([0; TABLE_BYTES], [0; LINE_BYTES]);
         for ask in history {
             lent = both("history", height.into(), height, ask, &lent);
         }
@@ -86,7 +85,7 @@ fn both(set: &str, place: usize, height: u16, ask: Ask, lent: &Lent) -> Lent {
 }
 
 fn one<C: Contestant>(who: &str, set: &str, place: usize, height: u16, ask: Ask, mut lent: Lent) -> Lent {
-    let Outcome { answer, moves, .. } = ask.put_to::<C>(height, &mut lent);
+    let Report { answer, moves, .. } = ask.put_to::<C>(height, &mut lent);
     mark();
     println!("{who} {set} {place} {} {answer} {moves}", ask.name());
     lent

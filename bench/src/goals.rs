@@ -4,7 +4,7 @@ use std::error::Error;
 
 use crate::counting::BYTEWISE;
 use crate::counts::Count;
-use crate::rows::{Row, CALLS, HEIGHTS, OF_HOLDERS};
+use crate::rows::{Row, CALLS, GRANT_WITH_A_LINE, HEIGHTS, OF_HOLDERS, WITH_A_LINE};
 use crate::stats::median;
 use crate::timing::{Figures, PASS, SAME, SECOND};
 
@@ -74,11 +74,14 @@ pub fn of_map_counts(maps: &[Row], counts: &[Count]) -> Option<Goal> {
 }
 
 /// The goals that instructions decide: by call and height against the same algorithm in Rust and against the bare
-/// pass, and by height for the longest call and the longest growth.
+/// pass; by height for the longest call, the longest growth and the longest call with a line; and for grants against what they
+/// took before there was one.
 pub fn of_counts(rows: &[Row], counts: &[Count]) -> Vec<Goal> {
     let mut goals = Vec::new();
+    let of_holders = OF_HOLDERS.map(|(call, _)| call);
+    let with_a_line = WITH_A_LINE.map(|(call, _)| call);
     for height in HEIGHTS {
-        for call in CALLS.into_iter().chain(OF_HOLDERS.map(|(call, _)| call)) {
+        for call in CALLS.into_iter().chain(of_holders).chain(with_a_line) {
             let chosen = |row: &Row| row.height == height && row.call == call;
             let against_same = of_rows(rows, counts, chosen).map(|(row, library, same)| (library / same, row.name()));
             goals.extend(Goal::worst(
@@ -104,14 +107,16 @@ pub fn of_counts(rows: &[Row], counts: &[Count]) -> Vec<Goal> {
         });
         goals.extend(growth_against_grant(height, rows, counts));
         goals.extend(repeated_against_grant(height, rows, counts));
+        goals.extend(with_line_against_grant(height, rows, counts));
+        goals.extend(grant_against_former(height, rows, counts));
     }
     goals
 }
 
-/// What the library took for the calls of the rows at a height whose name begins like this.
+/// What the library took for the calls of the rows at a height whose name is chosen.
 fn in_rows<'a>(
     height: u16,
-    call: &'static str,
+    chosen: impl Fn(&str) -> bool + 'a,
     rows: &'a [Row],
     counts: &'a [Count],
 ) -> impl Iterator<Item = (&'a Count, &'a Row)> {
@@ -120,28 +125,80 @@ fn in_rows<'a>(
         .filter(|count| count.who == "library" && count.set == "row");
     of_rows
         .map(|count| (count, &rows[count.place]))
-        .filter(move |(_, row)| row.height == height && row.call.starts_with(call))
+        .filter(move |(_, row)| row.height == height && chosen(row.call))
 }
 
-/// The median instructions of the grants at a height that are answered 0, without those that are repeated.
+/// The median instructions of the grants at a height that are answered 0, without those that are repeated and those with a line.
 fn median_grant(height: u16, rows: &[Row], counts: &[Count]) -> f64 {
-    let granted = in_rows(height, "grant", rows, counts).filter(|(count, _)| count.answer == 0);
+    let granted = in_rows(height, |call| call == "grant", rows, counts).filter(|(count, _)| count.answer == 0);
     median(granted.map(|(count, _)| count.instructions as f64))
 }
 
 /// That a grant that is repeated takes no more instructions than one that is not: the longest one against the median of these.
 fn repeated_against_grant(height: u16, rows: &[Row], counts: &[Count]) -> Option<Goal> {
     let grant = median_grant(height, rows, counts);
-    let repeated = in_rows(height, "repeated grant", rows, counts);
+    let repeated = in_rows(height, |call| call == "repeated grant", rows, counts);
     let ratios = repeated.map(|(count, row)| (count.instructions as f64 / grant, row.name()));
     Goal::worst("longest repeated grant ÷ median grant, instructions", 1.0, ratios)
 }
+
+/// That a grant with a full line, and an admit, which surveys the table twice, takes at most two and a half times as many
+/// instructions as one without: the longest one against the median grant.
+fn with_line_against_grant(height: u16, rows: &[Row], counts: &[Count]) -> Option<Goal> {
+    let grant = median_grant(height, rows, counts);
+    let grants = |call: &str| call == GRANT_WITH_A_LINE || call.starts_with("admit");
+    let ratios = in_rows(height, grants, rows, counts);
+    let ratios = ratios.map(|(count, row)| (count.instructions as f64 / grant, row.name()));
+    Goal::worst(
+        "longest grant or admit with a full line ÷ median grant, instructions",
+        2.5,
+        ratios,
+    )
+}
+
+/// That the grants of the table with nobody in line take hardly more instructions than those of the library before it had one, row
+/// by row.
+fn grant_against_former(height: u16, rows: &[Row], counts: &[Count]) -> Option<Goal> {
+    let granted = |row: &Row| row.height == height && row.call == "grant" && !row.outcome.starts_with("refused");
+    let ratios = rows
+        .iter()
+        .enumerate()
+        .filter(|(_, row)| granted(row))
+        .map(|(place, row)| {
+            let former = FORMER_GRANTS
+                .iter()
+                .find(|&&(height, reserve, _)| (height, reserve) == (row.height, row.reserve));
+            let former = former.map_or(f64::NAN, |&(.., instructions)| instructions);
+            (median(of_row(counts, "row", place, "library")) / former, row.name())
+        });
+    Goal::worst(
+        "grant with nobody in line ÷ grant of version 6.0, instructions",
+        1.05,
+        ratios,
+    )
+}
+
+/// The median instructions of the grants of the table that were answered 0, by height and reserve, in version 6.0 of the library,
+/// which had no line.
+const FORMER_GRANTS: [(u16, &str, f64); 10] = [
+    (12, "empty", 34_481.0),
+    (12, "half, single pages", 35_729.0),
+    (12, "half, mixed", 36_493.0),
+    (12, "full but one, single pages", 37_132.0),
+    (12, "full but one, mixed", 37_226.0),
+    (6, "empty", 29_230.0),
+    (6, "half, single pages", 29_331.0),
+    (6, "half, mixed", 29_453.0),
+    (6, "full but one, single pages", 29_608.0),
+    (6, "full but one, mixed", 30_963.0),
+];
 
 /// That a growth at a height takes at most twice the instructions of a grant: the longest one against the median of the grants
 /// that are answered 0.
 fn growth_against_grant(height: u16, rows: &[Row], counts: &[Count]) -> Option<Goal> {
     let grant = median_grant(height, rows, counts);
-    let of_rows = in_rows(height, "growth", rows, counts).map(|(count, row)| (count, row.name()));
+    let of_rows = in_rows(height, |call| call.starts_with("growth"), rows, counts);
+    let of_rows = of_rows.map(|(count, row)| (count, row.name()));
     let with_most_moves = counts
         .iter()
         .filter(|count| count.who == "library" && count.set == "growths" && count.place == usize::from(height));

@@ -1,12 +1,13 @@
 //! A call with the bytes that it is lent, and how it is put to a planner.
 
 use oracle::page_map::MAP_BYTES;
-use oracle::subject::{FEWEST_MOVE_BYTES, FEWEST_MOVE_BYTES_TO_GROW, TABLE_BYTES};
-use same::door::Outcome;
+use oracle::subject::{FEWEST_MOVE_BYTES, FEWEST_MOVE_BYTES_TO_GROW, LINE_BYTES, TABLE_BYTES};
+use same::door::{Admission, Outcome, NOBODY};
 
 use crate::contestant::Contestant;
 
 pub type Table = [u8; TABLE_BYTES];
+pub type Line = [u8; LINE_BYTES];
 pub type Map = [u8; MAP_BYTES];
 
 /// What a planner is asked.
@@ -17,6 +18,9 @@ pub enum Ask {
     GrantPages { tenant: u16, pages: u16 },
     Release { tenant: u16 },
     Grow { tenant: u16, level: u16 },
+    Join { tenant: u16, level: u16 },
+    Admit,
+    Withdraw { tenant: u16 },
     Map,
     Count,
 }
@@ -25,9 +29,51 @@ pub enum Ask {
 #[derive(Clone, PartialEq, Eq)]
 pub struct Lent {
     pub table: Table,
+    pub line: Line,
     /// All are lent to a growth, and as many as they need to the other calls.
     pub moves: [u8; FEWEST_MOVE_BYTES_TO_GROW],
     pub map: Map,
+}
+
+/// What a planner reports; the tenant is the one that an admit granted, else [`NOBODY`].
+#[derive(Clone, Copy, Debug, PartialEq, Eq)]
+pub struct Report {
+    pub answer: u16,
+    pub tenant: u16,
+    pub node: u16,
+    pub moves: u16,
+}
+
+impl Report {
+    /// That of a call that names and moves nobody.
+    fn of(answer: u16, node: u16) -> Report {
+        Report {
+            answer,
+            tenant: NOBODY,
+            node,
+            moves: 0,
+        }
+    }
+}
+
+impl From<Outcome> for Report {
+    fn from(Outcome { answer, node, moves }: Outcome) -> Report {
+        Report {
+            moves,
+            ..Report::of(answer, node)
+        }
+    }
+}
+
+impl From<Admission> for Report {
+    fn from(admission: Admission) -> Report {
+        Report {
+            answer: admission.answer,
+            tenant: admission.tenant,
+            node: admission.node,
+            moves: admission.moves,
+        }
+    }
 }
 
 /// A call that is timed.
@@ -39,10 +85,11 @@ pub struct Input {
 }
 
 impl Lent {
-    /// The table given, and bytes that no planner wrote in the rest.
-    pub fn new(table: Table) -> Lent {
+    /// The table and the line given, and bytes that no planner wrote in the rest.
+    pub fn new(table: Table, line: Line) -> Lent {
         Lent {
             table,
+            line,
             moves: [0xA5; FEWEST_MOVE_BYTES_TO_GROW],
             map: [0xA5; MAP_BYTES],
         }
@@ -56,28 +103,37 @@ impl Ask {
             Ask::Grant { .. } | Ask::GrantPages { .. } => "grant",
             Ask::Release { .. } => "release",
             Ask::Grow { .. } => "growth",
+            Ask::Join { .. } => "join",
+            Ask::Admit => "admit",
+            Ask::Withdraw { .. } => "withdrawal",
             Ask::Map => "map",
             Ask::Count => "count",
         }
     }
 
     /// Asks a planner. The number of pages counted is reported as the node.
-    pub fn put_to<C: Contestant>(self, height: u16, lent: &mut Lent) -> Outcome {
-        let few = &mut lent.moves[..FEWEST_MOVE_BYTES];
-        let (answer, node) = match self {
-            Ask::Grant { tenant, level } => return C::grant(height, &mut lent.table, few, tenant, level),
-            Ask::GrantPages { tenant, pages } => return C::grant_pages(height, &mut lent.table, few, tenant, pages),
-            Ask::Release { tenant } => return C::release(height, &mut lent.table, few, tenant),
-            Ask::Grow { tenant, level } => {
-                return C::grow(height, &mut lent.table, &mut lent.moves, tenant, level);
-            }
-            Ask::Open => (C::open(height, &mut lent.table), 0),
-            Ask::Map => (C::draw(height, &lent.table, &mut lent.map), 0),
+    pub fn put_to<C: Contestant>(self, height: u16, lent: &mut Lent) -> Report {
+        let Lent {
+            table,
+            line,
+            moves,
+            map,
+        } = lent;
+        let few = &mut moves[..FEWEST_MOVE_BYTES];
+        match self {
+            Ask::Grant { tenant, level } => C::grant(height, table, line, few, tenant, level).into(),
+            Ask::GrantPages { tenant, pages } => C::grant_pages(height, table, line, few, tenant, pages).into(),
+            Ask::Release { tenant } => C::release(height, table, few, tenant).into(),
+            Ask::Grow { tenant, level } => C::grow(height, table, moves, tenant, level).into(),
+            Ask::Admit => C::admit(height, table, line, few).into(),
+            Ask::Join { tenant, level } => Report::of(C::join(height, table, line, tenant, level), 0),
+            Ask::Withdraw { tenant } => Report::of(C::withdraw(height, table, line, tenant), 0),
+            Ask::Open => Report::of(C::open(height, table, line), 0),
+            Ask::Map => Report::of(C::draw(height, table, map), 0),
             Ask::Count => {
-                let counted = C::count(&lent.map);
-                (counted.answer, counted.count)
+                let counted = C::count(map);
+                Report::of(counted.answer, counted.count)
             }
-        };
-        Outcome { answer, node, moves: 0 }
+        }
     }
 }

@@ -2,35 +2,57 @@
 
 use oracle::definitions::{Counts, Tree};
 use oracle::generate::{holders_for, seat, Holder};
+use oracle::line::{self, Waiting};
 use oracle::planner::TENANTS;
 use oracle::random::Random;
-use oracle::subject::table_image;
+use oracle::subject::{line_image, table_image, LINE_BYTES};
 
 use crate::contestant::{Contestant, Second};
-use crate::input::{Ask, Input, Lent, Table};
+use crate::input::{Ask, Input, Lent, Line, Table};
 
-/// A reserve in order, and who holds a block in it.
+/// A reserve in order, who holds a block in it, and who waits for one.
+#[derive(Clone)]
 pub struct Reserve {
     height: u16,
     table: Box<Table>,
+    line: Line,
     holders: Vec<Holder>,
+    waiting: Vec<Waiting>,
 }
 
 impl Reserve {
-    /// The counts' blocks, held by tenants drawn at random.
+    /// The counts' blocks, held by tenants drawn at random. Nobody waits.
     pub fn draw(height: u16, counts: &Counts, random: &mut Random) -> Reserve {
         let holders = holders_for(random, counts);
         let table = table_image(&seat(Tree::new(height.into()), &holders));
         Reserve {
             height,
             table: table.try_into().expect("the image of a table"),
+            line: [0; LINE_BYTES],
             holders,
+            waiting: Vec::new(),
         }
+    }
+
+    /// The same with tenants drawn at random that wait for these levels, whom nobody has passed.
+    pub fn with_line(&self, levels: &[u16], random: &mut Random) -> Reserve {
+        let mut reserve = self.clone();
+        for &level in levels {
+            let tenant = reserve.newcomer(random);
+            reserve.waiting.push(Waiting {
+                tenant,
+                level: level.into(),
+                passed: 0,
+            });
+        }
+        let line = line_image(&line::numbers(&reserve.waiting));
+        reserve.line = line.try_into().expect("the image of a line");
+        reserve
     }
 
     /// A call on this reserve. A map is there before the call only if it is to be counted.
     pub fn input(&self, ask: Ask) -> Input {
-        let mut lent = Box::new(Lent::new(*self.table));
+        let mut lent = Box::new(Lent::new(*self.table, self.line));
         if ask == Ask::Count {
             Second::draw(self.height, &lent.table, &mut lent.map);
         }
@@ -44,15 +66,42 @@ impl Reserve {
     /// A grant of each level that there is room for; of every level, if there is room for none. A tenant that has the level, as
     /// there is nobody who holds nothing, asks for the next.
     pub fn grants(&self, random: &mut Random) -> Vec<Ask> {
-        let held: u32 = self.holders.iter().map(|holder| 1 << holder.level).sum();
-        let room = (1 << self.height) - held;
-        let fits = |level: &u16| room == 0 || 1 << level <= room;
         let grant = |level| {
             let tenant = self.newcomer(random);
             let level = level + u16::from(self.has(tenant, level));
             Ask::Grant { tenant, level }
         };
-        (0..=self.height).filter(fits).map(grant).collect()
+        let fitting = self.fitting_levels();
+        let levels = if fitting.is_empty() {
+            (0..=self.height).collect()
+        } else {
+            fitting
+        };
+        levels.into_iter().map(grant).collect()
+    }
+
+    /// The levels that there is room for.
+    pub fn fitting_levels(&self) -> Vec<u16> {
+        let held: u32 = self.holders.iter().map(|holder| 1 << holder.level).sum();
+        let room = (1 << self.height) - held;
+        (0..=self.height).filter(|level| 1 << level <= room).collect()
+    }
+
+    /// The level of the whole reserve.
+    pub fn whole(&self) -> u16 {
+        self.height
+    }
+
+    /// A join by somebody who neither holds a block nor waits.
+    pub fn join(&self, level: u16, random: &mut Random) -> Ask {
+        let tenant = self.newcomer(random);
+        Ask::Join { tenant, level }
+    }
+
+    /// Withdrawals of the oldest and of the youngest in line.
+    pub fn withdrawals(&self) -> Vec<Ask> {
+        let ends = self.waiting.first().into_iter().chain(self.waiting.last());
+        ends.map(|waiting| Ask::Withdraw { tenant: waiting.tenant }).collect()
     }
 
     fn has(&self, tenant: u16, level: u16) -> bool {
@@ -100,12 +149,15 @@ impl Reserve {
         ends.flatten()
     }
 
-    /// A tenant that holds nothing; any tenant, if all hold a block.
+    /// A tenant that holds nothing and does not wait; any tenant, if there is none.
     fn newcomer(&self, random: &mut Random) -> u16 {
         let holds = |tenant: usize| self.table[2 * tenant..2 * tenant + 2] != [0, 0];
+        let waits = |tenant: usize| self.waiting.iter().any(|one| usize::from(one.tenant) == tenant);
         let start = random.index(TENANTS);
         let mut tenants = (0..TENANTS).map(|step| (start + step) % TENANTS);
-        tenants.find(|&tenant| !holds(tenant)).unwrap_or(start) as u16
+        tenants
+            .find(|&tenant| !holds(tenant) && !waits(tenant))
+            .unwrap_or(start) as u16
     }
 }
 

@@ -1,11 +1,11 @@
 //! The rows of the table: which calls are made on which reserves.
 
 use oracle::definitions::Counts;
+use oracle::line::MOST_WAITING;
 use oracle::random::Random;
-use same::door::Outcome;
 
 use crate::contestant::Library;
-use crate::input::{Ask, Input};
+use crate::input::{Ask, Input, Report};
 use crate::reserve::{mixed, ones, Reserve};
 use crate::timing::{Batch, CONTESTANTS, PLANNERS};
 
@@ -61,6 +61,50 @@ pub const OF_HOLDERS: [(&str, fn(&Reserve) -> Vec<Ask>); 4] = [
     ("repeated grant", Reserve::repeated_grants),
 ];
 
+/// The calls with a full line that are timed, with how they are made on a reserve. Those who wait ask for the whole of it, for
+/// which there is no room, but for one that an admit grants; so a grant passes them all, and who joins finds the last place.
+pub const WITH_A_LINE: [(&str, fn(&Reserve, &mut Random) -> Vec<Input>); 6] = [
+    (GRANT_WITH_A_LINE, |reserve, random| {
+        let reserve = reserve.with_line(&[reserve.whole(); MOST_WAITING], random);
+        let asks = reserve.grants(random);
+        asks.into_iter().map(|ask| reserve.input(ask)).collect()
+    }),
+    ("admit of the first", |reserve, random| admits(reserve, 0, random)),
+    ("admit of the last", |reserve, random| {
+        admits(reserve, MOST_WAITING - 1, random)
+    }),
+    ("admit of nobody", |reserve, random| {
+        let reserve = reserve.with_line(&[reserve.whole(); MOST_WAITING], random);
+        vec![reserve.input(Ask::Admit)]
+    }),
+    ("join", |reserve, random| {
+        let reserve = reserve.with_line(&[reserve.whole(); MOST_WAITING - 1], random);
+        vec![reserve.input(reserve.join(0, random))]
+    }),
+    ("withdrawal", |reserve, random| {
+        let reserve = reserve.with_line(&[reserve.whole(); MOST_WAITING], random);
+        let asks = reserve.withdrawals();
+        asks.into_iter().map(|ask| reserve.input(ask)).collect()
+    }),
+];
+
+/// The reserve on which they are made: there is room for all levels but that of the whole.
+const RESERVE_WITH_A_LINE: &str = "half, mixed";
+
+/// Grants beside a full line, which are none of those that others are held against.
+pub const GRANT_WITH_A_LINE: &str = "grant with a full line";
+
+/// Admits for each level that there is room for, where the one at a place asks for it.
+fn admits(reserve: &Reserve, place: usize, random: &mut Random) -> Vec<Input> {
+    let mut inputs = Vec::new();
+    for level in reserve.fitting_levels() {
+        let mut levels = [reserve.whole(); MOST_WAITING];
+        levels[place] = level;
+        inputs.push(reserve.with_line(&levels, random).input(Ask::Admit));
+    }
+    inputs
+}
+
 fn kinds(height: u16, random: &mut Random) -> [Kind; 7] {
     let pages = 1 << height;
     let full = mixed(pages, random);
@@ -70,7 +114,7 @@ fn kinds(height: u16, random: &mut Random) -> [Kind; 7] {
     [
         kind("empty", Counts::default(), &CALLS),
         kind("half, single pages", ones(pages / 2), &CALLS),
-        kind("half, mixed", mixed(pages / 2, random), &CALLS),
+        kind(RESERVE_WITH_A_LINE, mixed(pages / 2, random), &CALLS),
         kind("full but one, single pages", ones(pages - 1), &["grant"]),
         kind("full but one, mixed", but_one, &["grant"]),
         kind("full, single pages", ones(pages), &CALLS),
@@ -78,7 +122,7 @@ fn kinds(height: u16, random: &mut Random) -> [Kind; 7] {
     ]
 }
 
-/// All rows, by height and call, those of holders who stay last.
+/// All rows, by height and call, those of holders who stay behind the others, and those with a line last.
 pub fn rows() -> Vec<Row> {
     let mut random = Random::new(SEED);
     let mut rows = Vec::new();
@@ -87,7 +131,7 @@ pub fn rows() -> Vec<Row> {
         let kinds = kinds(height, &mut random);
         for call in CALLS {
             for kind in kinds.iter().filter(|kind| kind.calls.contains(&call)) {
-                let inputs = inputs(height, &kind.counts, &mut random, |reserve, random| match call {
+                let inputs = asked(height, &kind.counts, &mut random, |reserve, random| match call {
                     "open" => vec![Ask::Open],
                     "grant" => reserve.grants(random),
                     "release" => reserve.releases(random),
@@ -103,7 +147,15 @@ pub fn rows() -> Vec<Row> {
     for (height, kinds) in &reserves {
         for (call, asks) in OF_HOLDERS {
             for kind in kinds.iter().filter(|kind| kind.calls == CALLS) {
-                let inputs = inputs(*height, &kind.counts, &mut random, |reserve, _| asks(reserve));
+                let inputs = asked(*height, &kind.counts, &mut random, |reserve, _| asks(reserve));
+                rows.extend(by_outcome(call, kind.reserve, inputs));
+            }
+        }
+    }
+    for (height, kinds) in &reserves {
+        for (call, inputs_on) in WITH_A_LINE {
+            for kind in kinds.iter().filter(|kind| kind.reserve == RESERVE_WITH_A_LINE) {
+                let inputs = inputs(*height, &kind.counts, &mut random, inputs_on);
                 rows.extend(by_outcome(call, kind.reserve, inputs));
             }
         }
@@ -111,25 +163,37 @@ pub fn rows() -> Vec<Row> {
     rows
 }
 
-/// Calls on some reserves with these counts, in any order.
-fn inputs(
+/// What is asked on some reserves with these counts, in any order.
+fn asked(
     height: u16,
     counts: &Counts,
     random: &mut Random,
     asks: impl Fn(&Reserve, &mut Random) -> Vec<Ask>,
 ) -> Vec<Input> {
+    inputs(height, counts, random, |reserve, random| {
+        let asks = asks(reserve, random);
+        asks.into_iter().map(|ask| reserve.input(ask)).collect()
+    })
+}
+
+/// Calls on some reserves with these counts, in any order.
+fn inputs(
+    height: u16,
+    counts: &Counts,
+    random: &mut Random,
+    inputs_on: impl Fn(&Reserve, &mut Random) -> Vec<Input>,
+) -> Vec<Input> {
     let mut inputs = Vec::new();
     for _ in 0..SEATINGS {
         let reserve = Reserve::draw(height, counts, random);
-        let asks = asks(&reserve, random);
-        inputs.extend(asks.into_iter().map(|ask| reserve.input(ask)));
+        inputs.extend(inputs_on(&reserve, random));
     }
     random.shuffle(&mut inputs);
     inputs
 }
 
 /// What the library reports on an input.
-pub fn outcome_of(input: &Input) -> Outcome {
+pub fn outcome_of(input: &Input) -> Report {
     input.ask.put_to::<Library>(input.height, &mut input.lent.clone())
 }
 
@@ -156,10 +220,10 @@ fn by_outcome(call: &'static str, reserve: &'static str, inputs: Vec<Input>) -> 
     rows
 }
 
-fn describe(call: &str, outcome: Outcome) -> String {
+fn describe(call: &str, outcome: Report) -> String {
     match (call, outcome.answer, outcome.moves) {
         (_, 1.., _) => format!("refused, {}", outcome.answer),
-        ("open" | "map" | "count", 0, _) => "done".into(),
+        ("open" | "map" | "count" | "join" | "withdrawal", 0, _) => "done".into(),
         (_, 0, 0) => "no move".into(),
         (_, 0, _) => "with moves".into(),
     }

@@ -12,11 +12,11 @@ use crate::pass::bare_pass;
 use crate::rows::{outcome_of, Row};
 use crate::stats::{mean, mean_of_smaller_half, Quartiles};
 
-/// So many copies of the lent bytes are made before a batch, because a call may change its table. They fit into the
+/// So many copies of the lent bytes are made before a batch, because a call may change its table or its line. They fit into the
 /// two nearest caches, with what the call itself uses.
 const COPIES: usize = 4;
 
-/// So many times a batch goes over the copies if the call leaves its table as it is.
+/// So many times a batch goes over the copies if the call leaves its table and its line as they are.
 const LAPS: usize = 8;
 
 /// The places of the contestants in all figures.
@@ -121,10 +121,7 @@ pub fn map_batch(input: &Input, way: fn(&Map)) -> f64 {
 }
 
 fn batch<C: Contestant>(input: &Input) -> f64 {
-    let may_change = matches!(
-        input.ask,
-        Ask::Grant { .. } | Ask::GrantPages { .. } | Ask::Release { .. } | Ask::Grow { .. }
-    );
+    let may_change = !matches!(input.ask, Ask::Open | Ask::Map | Ask::Count);
     let changes = may_change && outcome_of(input).answer == 0;
     let laps = if changes { 1 } else { LAPS };
     per_call::<COPIES>(input, laps, |lent| {

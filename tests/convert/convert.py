@@ -12,7 +12,8 @@ import subprocess
 import sys
 import tempfile
 
-from programs import Program, check, check_streams, conclude, ends_with, feed, grant, grant_pages, growth, limited, release, sockets
+from programs import Program, admit, check, check_streams, conclude, ends_with, feed, grant, grant_pages, growth, join, limited, release, sockets
+from programs import withdrawal
 
 CONVERT_PAGES, ORACLE, FAILS, EXAMPLES = (os.path.abspath(path) for path in sys.argv[1:])
 PROGRAM = Program(CONVERT_PAGES)
@@ -25,8 +26,10 @@ FOLDER = object()  # what stands for a folder among files; a text stands for a l
 
 # Journals
 
-OLD = bytes([1, 5]) + grant_pages(7, 0) + grant(1, 1) + growth(1, 0) + grant_pages(2, 1) + release(7) + grant_pages(4095, 0)
-NEW = bytes([1, 5]) + grant(7, 0) + grant(1, 1) + growth(1, 0) + grant_pages(2, 1) + release(7) + grant(4095, 0)
+# Calls that stay as they are, of all kinds, between two that do not.
+KEPT = grant(1, 1) + growth(1, 0) + grant_pages(2, 1) + join(3, 0) + admit() + join(4, 5) + withdrawal(4) + release(7)
+OLD = bytes([1, 5]) + grant_pages(7, 0) + KEPT + grant_pages(4095, 0)
+NEW = bytes([1, 5]) + grant(7, 0) + KEPT + grant(4095, 0)
 
 # Journals that are refused, each with number and offset. Lines that only tell of a refused call are no reason.
 REFUSED = (
@@ -37,6 +40,8 @@ REFUSED = (
     ("with an unknown kind", OLD + b"\xc8", 12, len(OLD)),
     ("cut off", OLD[:-1], 13, len(OLD) - 5),
     ("cut off in a growth", OLD + growth(1, 2)[:-1], 13, len(OLD)),
+    ("cut off in a join", OLD + join(1, 2)[:-1], 13, len(OLD)),
+    ("cut off in a withdrawal", OLD + withdrawal(1)[:-1], 13, len(OLD)),
     ("with a second open", OLD + b"\x01\x05", 14, len(OLD)),
     ("too long by a byte", b"\x01\x00" + release(7) * 21845, 16, 0),
     ("far too long", b"\x01\x00" + grant_pages(7, 0) * 40000, 16, 0),
@@ -44,14 +49,16 @@ REFUSED = (
 
 
 def drawn(length):
-    """Grants, releases and growths at height 12 up to a length, drawn at random, with 0 pages in many of the grants."""
+    """Calls of all kinds at height 12 up to a length, drawn at random, with 0 pages in many of the grants."""
     draw = random.Random(length)
     journal = bytes([1, 12])
     while len(journal) + 5 <= length:
         tenant = draw.choice((draw.randrange(1000, 1200), draw.randrange(65536)))
         level = draw.randrange(14)
         pages = draw.randrange(300)
-        journal += draw.choice((release(tenant), grant(tenant, level), growth(tenant, level), grant_pages(tenant, 0), grant_pages(tenant, pages)))
+        of_holders = release(tenant), grant(tenant, level), growth(tenant, level)
+        of_line = join(tenant, level), admit(), withdrawal(tenant)
+        journal += draw.choice((*of_holders, *of_line, grant_pages(tenant, 0), grant_pages(tenant, pages)))
     return journal
 
 
@@ -161,6 +168,7 @@ def check_long_journals():
         ("a journal drawn at random", drawn(20000)),
         ("a long journal drawn at random", longest),
         ("as many bytes as there may be", bytes([1, 0]) + grant_pages(0, 0) + release(7) * 21843),
+        ("as many records as there can be", bytes([1, 0]) + admit() * 65534),
         ("a conversion as long as its journal", bytes([1, 0]) + grant_pages(0, 1) + release(7) * 21843),
     ):
         converted, _ = by_oracle(journal)

@@ -1,8 +1,8 @@
 /*
- * Lists of moves carried out on marked pages, as include/reserve.h says, through long random histories of all heights: no
- * page may be written while somebody's data lies there, and after every call each tenant's pages have to carry its own marks.
- * Wrong ways to work a list are tried too, and have to be found. `carry SEED TIMES` draws from another seed, and so many
- * times as much. The last line is 'N passed, M failed'.
+ * Lists of moves carried out on marked pages, as include/reserve.h says, through long random histories of all heights, with
+ * tenants that wait in line: no page may be written while somebody's data lies there, and after every call each tenant's pages
+ * have to carry its own marks. Wrong ways to work a list are tried too, and have to be found. `carry SEED TIMES` draws from
+ * another seed, and so many times as much. The last line is 'N passed, M failed'.
  */
 #include <stdio.h>
 #include <stdlib.h>
@@ -37,6 +37,7 @@ struct box {
     uint16_t height;
     enum way way;
     uint8_t table[RESERVE_TABLE_BYTES];
+    uint8_t line[RESERVE_LINE_BYTES];
     uint8_t moves[RESERVE_GROW_MOVES_BYTES];
     uint32_t page[PAGES];           /* what stands on each page */
     uint32_t room[PAGES];           /* what was lifted, each page at its number in the reserve */
@@ -53,12 +54,12 @@ struct box {
     int misshapen;         /* a list that is not as the header says */
 };
 
-/* what all right histories together had: growths, starts that were repeated, and the other calls */
+/* what all right histories together had: growths, admits of somebody, starts that were repeated, and the other calls */
 static struct total {
     unsigned long calls, moves, staged;
     unsigned most_moves, most_staged;
     unsigned most_pages; /* that one list staged, in 4,096ths of the reserve */
-} of_growths, of_others, of_repeated;
+} of_growths, of_admits, of_others, of_repeated;
 
 struct move {
     unsigned tenant, from, to, staged;
@@ -232,14 +233,31 @@ static int is_well_formed(const struct box *box, struct call call, unsigned coun
     return 1;
 }
 
+/* whether a tenant stands in the line */
+static int waits(const struct box *box, unsigned tenant) {
+    for (unsigned place = 0; place < number(box->line) && place < RESERVE_LINE_PLACES; place++) {
+        if (number(box->line + 2 + 6 * place) == tenant) {
+            return 1;
+        }
+    }
+    return 0;
+}
+
 /* whether a call that was answered 0 is a start that is repeated: the tenant's data lies there already */
 static int is_repeated(const struct box *box, struct call call) {
     int grants = call.kind == RESERVE_KIND_GRANT_LEVEL || call.kind == RESERVE_KIND_GRANT_PAGES;
     return grants && box->node[call.tenant] != 0;
 }
 
-/* a repeated start tells where the data lies, and nobody moves */
+/* A repeated start tells where the data lies, and nobody moves. Whoever is admitted holds nothing before that, and waits no
+ * longer; an admit that names nobody tells no node, and nobody moves. */
 static int is_fitting(const struct box *box, struct call call, struct reserve_outcome got) {
+    if (call.kind == RESERVE_KIND_ADMIT && call.tenant != RESERVE_NOBODY) {
+        return call.tenant < RESERVE_TENANTS && box->node[call.tenant] == 0 && got.node != 0 && !waits(box, call.tenant);
+    }
+    if (call.kind == RESERVE_KIND_ADMIT) {
+        return got.node == 0 && got.moves == 0;
+    }
     return !is_repeated(box, call) || (got.node == box->node[call.tenant] && got.moves == 0);
 }
 
@@ -284,6 +302,21 @@ static unsigned draw(struct box *box, unsigned below) {
     return (box->drawn >> 8) % below;
 }
 
+/* a join of any size, an admit, or a withdrawal, mostly of the oldest, who bars the others */
+static struct call draw_call_of_line(struct box *box, unsigned tenants) {
+    struct call call = {RESERVE_KIND_ADMIT, RESERVE_NOBODY, 0};
+    unsigned drawn = draw(box, 8);
+    if (drawn < 2) {
+        call.kind = RESERVE_KIND_JOIN;
+        call.tenant = (uint16_t)draw(box, tenants);
+        call.size = (uint16_t)draw(box, box->height + 1u);
+    } else if (drawn == 2) {
+        call.kind = RESERVE_KIND_WITHDRAW;
+        call.tenant = (uint16_t)(draw(box, 4) == 0 ? draw(box, tenants) : number(box->line + 2));
+    }
+    return call;
+}
+
 /* mostly small blocks; times of many grants and times of many releases; now and then a call that is refused */
 static struct call draw_call(struct box *box) {
     unsigned tenants = box->height < RESERVE_MAX_HEIGHT ? 2u << box->height : RESERVE_TENANTS;
@@ -291,6 +324,9 @@ static struct call draw_call(struct box *box) {
     struct call call = {RESERVE_KIND_RELEASE, (uint16_t)draw(box, tenants), 0};
     if (draw(box, 100) == 0) {
         box->filling = !box->filling;
+    }
+    if (draw(box, 3) == 0) {
+        return draw_call_of_line(box, tenants);
     }
     if (draw(box, 4) == 0) {
         call.kind = RESERVE_KIND_GROW;
@@ -310,25 +346,55 @@ static struct call draw_call(struct box *box) {
     return call;
 }
 
-static struct reserve_outcome make_call(struct box *box, struct call call) {
-    uint8_t *table = box->table, *moves = box->moves;
-    const size_t table_length = sizeof box->table, moves_length = bytes_for(call.kind);
-    memset(moves, UNTOUCHED, sizeof box->moves);
-    switch (call.kind) {
-    case RESERVE_KIND_GRANT_LEVEL:
-        return reserve_grant_level(box->height, table, table_length, moves, moves_length, call.tenant, call.size);
-    case RESERVE_KIND_GRANT_PAGES:
-        return reserve_grant_pages(box->height, table, table_length, moves, moves_length, call.tenant, call.size);
-    case RESERVE_KIND_GROW:
-        return reserve_grow(box->height, table, table_length, moves, moves_length, call.tenant, call.size);
+/* an admit that was made tells whom it granted as the call's tenant; a join and a withdrawal tell neither node nor moves */
+static struct reserve_outcome make_call_of_line(struct box *box, struct call *call) {
+    uint8_t *table = box->table, *line = box->line;
+    const size_t table_length = sizeof box->table, line_length = sizeof box->line;
+    struct reserve_outcome got = {0, 0, 0};
+    struct reserve_admission admission;
+    switch (call->kind) {
+    case RESERVE_KIND_JOIN:
+        got.answer = reserve_join(box->height, table, table_length, line, line_length, call->tenant, call->size);
+        return got;
+    case RESERVE_KIND_WITHDRAW:
+        got.answer = reserve_withdraw(box->height, table, table_length, line, line_length, call->tenant);
+        return got;
     default:
-        return reserve_release(box->height, table, table_length, moves, moves_length, call.tenant);
+        admission = reserve_admit(box->height, table, table_length, line, line_length, box->moves, bytes_for(call->kind));
+        call->tenant = admission.tenant;
+        got.answer = admission.answer;
+        got.node = admission.node;
+        got.moves = admission.moves;
+        return got;
     }
 }
 
-/* there is nothing to carry out of a start that is repeated */
+static struct reserve_outcome make_call(struct box *box, struct call *call) {
+    uint8_t *table = box->table, *line = box->line, *moves = box->moves;
+    const size_t table_length = sizeof box->table, line_length = sizeof box->line, moves_length = bytes_for(call->kind);
+    memset(moves, UNTOUCHED, sizeof box->moves);
+    switch (call->kind) {
+    case RESERVE_KIND_GRANT_LEVEL:
+        return reserve_grant_level(box->height, table, table_length, line, line_length, moves, moves_length, call->tenant,
+                                   call->size);
+    case RESERVE_KIND_GRANT_PAGES:
+        return reserve_grant_pages(box->height, table, table_length, line, line_length, moves, moves_length, call->tenant,
+                                   call->size);
+    case RESERVE_KIND_GROW:
+        return reserve_grow(box->height, table, table_length, moves, moves_length, call->tenant, call->size);
+    case RESERVE_KIND_RELEASE:
+        return reserve_release(box->height, table, table_length, moves, moves_length, call->tenant);
+    default:
+        return make_call_of_line(box, call);
+    }
+}
+
+/* there is nothing to carry out of a start that is repeated, nor where nobody gets a block or gives one up */
 static void carry_out(struct box *box, struct call call, struct reserve_outcome got) {
     struct total *total = &of_others;
+    if (got.node == 0) {
+        return;
+    }
     if (is_repeated(box, call)) {
         total = &of_repeated;
     } else if (call.kind == RESERVE_KIND_RELEASE) {
@@ -337,6 +403,7 @@ static void carry_out(struct box *box, struct call call, struct reserve_outcome 
         total = &of_growths;
         carry_out_growth(box, call.tenant, got);
     } else {
+        total = call.kind == RESERVE_KIND_ADMIT ? &of_admits : &of_others;
         carry_out_grant(box, call.tenant, got);
     }
     if (box->way == AS_SAID) {
@@ -345,7 +412,7 @@ static void carry_out(struct box *box, struct call call, struct reserve_outcome 
 }
 
 static void make_and_carry_out(struct box *box, struct call call) {
-    struct reserve_outcome got = make_call(box, call);
+    struct reserve_outcome got = make_call(box, &call);
     if (got.answer == RESERVE_DONE) {
         box->misshapen = !is_well_formed(box, call, got.moves) || !is_fitting(box, call, got);
         if (box->misshapen) {
@@ -369,7 +436,7 @@ static unsigned run_history(struct box *box, unsigned height, uint32_t seed, enu
     for (unsigned i = 0; i < PAGES; i++) {
         box->whose[i] = NOBODY;
     }
-    box->misshapen = reserve_open(box->height, box->table, sizeof box->table) != RESERVE_DONE;
+    box->misshapen = reserve_open(box->height, box->table, sizeof box->table, box->line, sizeof box->line) != RESERVE_DONE;
     while (calls < CALLS && !has_found(box)) {
         make_and_carry_out(box, draw_call(box));
         calls++;
@@ -430,6 +497,7 @@ int main(int argc, char **argv) {
         check_height(&box, height, seed, HISTORIES * times);
     }
     check_total("grants and releases", &of_others, 1, PAGES / 4);
+    check_total("admits", &of_admits, 1, PAGES / 4);
     check_total("growths", &of_growths, 2, PAGES / 32 * 5);
     printf("%lu starts that were repeated\n", of_repeated.calls);
     expect(of_repeated.calls > 0);

@@ -127,16 +127,25 @@ def kinds():
 def sizes():
     """The other constants, each from the definition that fixes it."""
     step = "crates/calls/specs/Step.antt"
-    move = number("crates/reserve/specs/Door.antt", r"^entriesIn \w+ = length \w+ / (\d+)$")
+    with_line = "crates/admission/specs/Step.antt"
+    door = "crates/reserve/specs/Door.antt"
+    move = number(door, r"^entriesIn \w+ = length \w+ / (\d+)$")
     entries = lambda kinds: number("crates/calls/specs/Call.antt", rf"^leastEntries \((?:{kinds}) .*\) = (\d+)$")
+    direct, admit = entries("grant-level|grant-pages|release"), number(with_line, r"check 3 \(ltb m (\d+)\)")
+    if direct != admit:
+        sys.exit(f"a grant or a release needs {direct} entries, and an admit {admit}")
     return {
         "RESERVE_DONE": number(step, r"^first \[\] = (\d+)$"),
         "RESERVE_KIND_NONE": number("crates/reserve/specs/Records.antt", r"^readingOf at Read\.End = .*kind = (\d+);"),
         "RESERVE_MAX_HEIGHT": number(step, r"check 1 \(ltb (\d+) h\)"),
         "RESERVE_TENANTS": number(step, r"check 4 \(ltb (\d+) t\)") + 1,
-        "RESERVE_TABLE_BYTES": number("crates/image/specs/Image.antt", r"eqb \(length image\) (\d+)"),
+        "RESERVE_LINE_PLACES": number(with_line, r"check 17 \(leb (\d+) "),
+        "RESERVE_MOST_PASSES": number("crates/line/specs/Order.antt", r"leb \(w \.passed\) (\d+)"),
+        "RESERVE_NOBODY": number(door, r"^\S+ none = (\d+)$"),
+        "RESERVE_TABLE_BYTES": 2 * number("crates/image/specs/Image.antt", r"tableOf image = lentAs (\d+) image"),
+        "RESERVE_LINE_BYTES": 2 * number(with_line, r"eqb \(length \(S \.line\)\) (\d+)"),
         "RESERVE_MOVE_BYTES": move,
-        "RESERVE_MOVES_BYTES": entries("grant-level|grant-pages|release") * move,
+        "RESERVE_MOVES_BYTES": direct * move,
         "RESERVE_GROW_MOVES_BYTES": entries("grow") * move,
         "RESERVE_MAP_BYTES": number("crates/pagemap/specs/Draw.antt", r"check 15 \(ltb \(length m\) (\d+)\)"),
         "RESERVE_RECORD_BYTES": 1 + max(numbers("crates/journal/specs/Format.antt", r"^bodyLength Kind\.\w+ = (\d+)$")),

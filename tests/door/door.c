@@ -86,10 +86,13 @@ static unsigned word(const uint8_t *bytes) { return bytes[0] + 256u * bytes[1]; 
 
 static unsigned node_of(struct lent table, unsigned tenant) { return word(table.bytes + 2 * tenant); }
 
-static void put_node(struct lent table, unsigned tenant, unsigned node) {
-    table.bytes[2 * tenant] = (uint8_t)(node % 256);
-    table.bytes[2 * tenant + 1] = (uint8_t)(node / 256);
+/* puts a number into a table or a line, at its place among the numbers there */
+static void put_number(struct lent numbers, unsigned place, unsigned number) {
+    numbers.bytes[2 * place] = (uint8_t)(number % 256);
+    numbers.bytes[2 * place + 1] = (uint8_t)(number / 256);
 }
+
+static void put_node(struct lent table, unsigned tenant, unsigned node) { put_number(table, tenant, node); }
 
 static int is_entry(struct lent moves, unsigned place, unsigned tenant, unsigned from, unsigned to, unsigned staged) {
     const uint8_t *move = moves.bytes + RESERVE_MOVE_BYTES * place;
@@ -104,11 +107,45 @@ static int is_staged(struct lent moves, unsigned place, unsigned tenant, unsigne
     return is_entry(moves, place, tenant, from, to, 1);
 }
 
-/* ---- a reserve with its table and moves */
+/* ---- the calls that take a line, on lent bytes */
+
+/* no bytes, behind a pointer to nowhere */
+static const struct lent nothing;
+
+static unsigned open_on(uint16_t height, struct lent table, struct lent line) {
+    return reserve_open(height, table.bytes, table.length, line.bytes, line.length);
+}
+
+static struct reserve_outcome grant_level_on(uint16_t height, struct lent table, struct lent line, struct lent moves,
+                                             uint16_t tenant, uint16_t level) {
+    return reserve_grant_level(height, table.bytes, table.length, line.bytes, line.length, moves.bytes, moves.length, tenant,
+                               level);
+}
+
+static struct reserve_outcome grant_pages_on(uint16_t height, struct lent table, struct lent line, struct lent moves,
+                                             uint16_t tenant, uint16_t pages) {
+    return reserve_grant_pages(height, table.bytes, table.length, line.bytes, line.length, moves.bytes, moves.length, tenant,
+                               pages);
+}
+
+static unsigned join_on(uint16_t height, struct lent table, struct lent line, uint16_t tenant, uint16_t level) {
+    return reserve_join(height, table.bytes, table.length, line.bytes, line.length, tenant, level);
+}
+
+static struct reserve_admission admit_on(uint16_t height, struct lent table, struct lent line, struct lent moves) {
+    return reserve_admit(height, table.bytes, table.length, line.bytes, line.length, moves.bytes, moves.length);
+}
+
+static unsigned withdraw_on(uint16_t height, struct lent table, struct lent line, uint16_t tenant) {
+    return reserve_withdraw(height, table.bytes, table.length, line.bytes, line.length, tenant);
+}
+
+/* ---- a reserve with its table, line and moves */
 
 struct box {
     uint16_t height;
     struct lent table;
+    struct lent line;
     struct lent moves;
 };
 
@@ -116,25 +153,33 @@ static struct box open_box(uint16_t height) {
     struct box box;
     box.height = height;
     box.table = lend(RESERVE_TABLE_BYTES, 0xEE);
+    box.line = lend(RESERVE_LINE_BYTES, 0xEE);
     box.moves = lend(RESERVE_GROW_MOVES_BYTES + 7, 0x77);
-    EXPECT(reserve_open(height, box.table.bytes, box.table.length) == RESERVE_DONE);
-    EXPECT(all_are(box.table, 0));
+    EXPECT(open_on(height, box.table, box.line) == RESERVE_DONE);
+    EXPECT(all_are(box.table, 0) && all_are(box.line, 0));
     return box;
 }
 
-static void close_box(struct box box) {
+static void give_back_box(struct box box) {
     give_back(box.table);
+    give_back(box.line);
     give_back(box.moves);
+}
+
+/* where nobody waits, the line stays as the opening left it */
+static void close_box(struct box box) {
+    EXPECT(all_are(box.line, 0));
+    give_back_box(box);
 }
 
 static struct reserve_outcome grant_level(struct box box, uint16_t tenant, uint16_t level) {
     memset(box.moves.bytes, 0x77, box.moves.length);
-    return reserve_grant_level(box.height, box.table.bytes, box.table.length, box.moves.bytes, box.moves.length, tenant, level);
+    return grant_level_on(box.height, box.table, box.line, box.moves, tenant, level);
 }
 
 static struct reserve_outcome grant_pages(struct box box, uint16_t tenant, uint16_t pages) {
     memset(box.moves.bytes, 0x77, box.moves.length);
-    return reserve_grant_pages(box.height, box.table.bytes, box.table.length, box.moves.bytes, box.moves.length, tenant, pages);
+    return grant_pages_on(box.height, box.table, box.line, box.moves, tenant, pages);
 }
 
 static struct reserve_outcome release(struct box box, uint16_t tenant) {
@@ -146,6 +191,17 @@ static struct reserve_outcome grow(struct box box, uint16_t tenant, uint16_t lev
     memset(box.moves.bytes, 0x77, box.moves.length);
     return reserve_grow(box.height, box.table.bytes, box.table.length, box.moves.bytes, box.moves.length, tenant, level);
 }
+
+static unsigned join(struct box box, uint16_t tenant, uint16_t level) {
+    return join_on(box.height, box.table, box.line, tenant, level);
+}
+
+static struct reserve_admission admit(struct box box) {
+    memset(box.moves.bytes, 0x77, box.moves.length);
+    return admit_on(box.height, box.table, box.line, box.moves);
+}
+
+static unsigned withdraw(struct box box, uint16_t tenant) { return withdraw_on(box.height, box.table, box.line, tenant); }
 
 /* the bytes after so many moves are as they were lent */
 static int moves_end_after(struct box box, unsigned number) {
@@ -172,31 +228,96 @@ static int refused(struct reserve_outcome got, unsigned answer) {
     return got.answer == answer && got.node == 0 && got.moves == 0;
 }
 
+static int admitted(struct box box, struct reserve_admission got, unsigned tenant, unsigned node, unsigned moves) {
+    return got.answer == RESERVE_DONE && got.tenant == tenant && got.node == node && got.moves == moves &&
+           node_of(box.table, tenant) == node && moves_end_after(box, moves);
+}
+
+/* an admit that is refused, or with answer 0 one that grants nobody */
+static int admitted_nobody(struct reserve_admission got, unsigned answer) {
+    return got.answer == answer && got.tenant == RESERVE_NOBODY && got.node == 0 && got.moves == 0;
+}
+
+static int admits_nobody(struct box box, unsigned answer) {
+    return admitted_nobody(admit(box), answer) && moves_end_after(box, 0);
+}
+
+/* ---- that no byte changes */
+
+struct kept {
+    uint8_t *table, *line;
+};
+
+static struct kept keep(struct box box) {
+    struct kept kept = {copy_of(box.table), copy_of(box.line)};
+    return kept;
+}
+
+/* whether table and line are as they were then, and no move was written by the last call */
+static int unchanged(struct box box, struct kept kept) {
+    return memcmp(kept.table, box.table.bytes, box.table.length) == 0 &&
+           memcmp(kept.line, box.line.bytes, box.line.length) == 0 && moves_end_after(box, 0);
+}
+
+static void forget(struct kept kept) {
+    free(kept.table);
+    free(kept.line);
+}
+
 /* ---- the calls */
 
 static void opening(void) {
     struct lent table = lend(RESERVE_TABLE_BYTES, 0x5A);
+    struct lent line = lend(RESERVE_LINE_BYTES, 0x5A);
     struct lent shorter = lend(RESERVE_TABLE_BYTES - 2, 0x5A);
-    struct lent longer = lend(RESERVE_TABLE_BYTES + 2, 0x5A);
-    struct lent odd = lend(RESERVE_TABLE_BYTES - 1, 0x5A);
-    EXPECT(reserve_open(13, table.bytes, table.length) == RESERVE_REFUSED_HEIGHT);
-    EXPECT(reserve_open(65535, table.bytes, table.length) == RESERVE_REFUSED_HEIGHT);
-    EXPECT(reserve_open(13, shorter.bytes, shorter.length) == RESERVE_REFUSED_HEIGHT);
-    EXPECT(reserve_open(12, shorter.bytes, shorter.length) == RESERVE_REFUSED_TABLE_LENGTH);
-    EXPECT(reserve_open(12, longer.bytes, longer.length) == RESERVE_REFUSED_TABLE_LENGTH);
-    EXPECT(reserve_open(12, odd.bytes, odd.length) == RESERVE_REFUSED_TABLE_LENGTH);
-    EXPECT(reserve_open(12, NULL, 0) == RESERVE_REFUSED_TABLE_LENGTH);
-    EXPECT(reserve_open(13, NULL, 0) == RESERVE_REFUSED_HEIGHT);
-    EXPECT(all_are(table, 0x5A) && all_are(shorter, 0x5A) && all_are(longer, 0x5A) && all_are(odd, 0x5A));
-    EXPECT(reserve_open(12, table.bytes, table.length) == RESERVE_DONE);
-    EXPECT(all_are(table, 0));
+    EXPECT(open_on(13, table, line) == RESERVE_REFUSED_HEIGHT);
+    EXPECT(open_on(65535, table, line) == RESERVE_REFUSED_HEIGHT);
+    EXPECT(open_on(13, shorter, line) == RESERVE_REFUSED_HEIGHT);
+    EXPECT(open_on(13, nothing, nothing) == RESERVE_REFUSED_HEIGHT);
+    EXPECT(open_on(12, shorter, line) == RESERVE_REFUSED_TABLE_LENGTH);
+    EXPECT(all_are(table, 0x5A) && all_are(line, 0x5A) && all_are(shorter, 0x5A));
+    EXPECT(open_on(12, table, line) == RESERVE_DONE);
+    EXPECT(all_are(table, 0) && all_are(line, 0));
     memset(table.bytes, 0x5A, table.length);
-    EXPECT(reserve_open(0, table.bytes, table.length) == RESERVE_DONE);
-    EXPECT(all_are(table, 0));
+    memset(line.bytes, 0x5A, line.length);
+    EXPECT(open_on(0, table, line) == RESERVE_DONE);
+    EXPECT(all_are(table, 0) && all_are(line, 0));
     give_back(table);
+    give_back(line);
     give_back(shorter);
-    give_back(longer);
-    give_back(odd);
+}
+
+/* all calls that take both a table and a line, one after the other, answer this */
+static int all_answer(unsigned answer, uint16_t height, struct lent table, struct lent line, struct lent moves) {
+    return open_on(height, table, line) == answer && join_on(height, table, line, 5, 0) == answer &&
+           withdraw_on(height, table, line, 5) == answer && join_on(height, table, line, 6, 0) == answer &&
+           admit_on(height, table, line, moves).answer == answer &&
+           grant_level_on(height, table, line, moves, 7, 0).answer == answer &&
+           grant_pages_on(height, table, line, moves, 8, 1).answer == answer;
+}
+
+/* a table and a line, each of the right length and of those beside it: another length is refused, and no byte changes */
+static void lengths(void) {
+    static const int beside[] = {0, -2, -1, 1, 2};
+    size_t i, j;
+    for (i = 0; i < sizeof beside / sizeof beside[0]; i++) {
+        for (j = 0; j < sizeof beside / sizeof beside[0]; j++) {
+            struct lent table = lend((size_t)(RESERVE_TABLE_BYTES + beside[i]), 0x5A);
+            struct lent line = lend((size_t)(RESERVE_LINE_BYTES + beside[j]), 0x5A);
+            struct lent moves = lend(RESERVE_MOVES_BYTES, 0x5A);
+            int are_right = i == 0 && j == 0;
+            EXPECT(all_answer(are_right ? RESERVE_DONE : RESERVE_REFUSED_TABLE_LENGTH, 2, table, line, moves));
+            EXPECT(are_right || (all_are(table, 0x5A) && all_are(line, 0x5A)));
+            EXPECT(all_are(moves, 0x5A));
+            EXPECT(all_answer(RESERVE_REFUSED_TABLE_LENGTH, 2, table, nothing, moves));
+            EXPECT(all_answer(RESERVE_REFUSED_TABLE_LENGTH, 2, nothing, line, moves));
+            EXPECT(all_answer(RESERVE_REFUSED_HEIGHT, 13, table, line, moves));
+            give_back(table);
+            give_back(line);
+            give_back(moves);
+        }
+    }
+    EXPECT(all_answer(RESERVE_REFUSED_TABLE_LENGTH, 2, nothing, nothing, nothing));
 }
 
 /* four pages: two single ones move everybody, and one of the movers has to be lifted out of the others' way */
@@ -270,24 +391,22 @@ static void arguments(void) {
     struct box box = open_box(3);
     struct lent longer = lend(RESERVE_TABLE_BYTES + 2, 0x11);
     struct lent shorter = lend(RESERVE_TABLE_BYTES - 2, 0x11);
+    struct lent line = lend(RESERVE_LINE_BYTES - 1, 0x11);
     struct lent few = lend(RESERVE_MOVES_BYTES - 1, 0x22);
-    uint8_t *table, *copy;
+    struct kept kept;
     EXPECT(granted(box, grant_pages(box, 5, 1), 5, 4, 0));
-    table = copy_of(box.table);
-    EXPECT(refused(reserve_grant_level(13, longer.bytes, longer.length, few.bytes, few.length, 4096, 14),
-                   RESERVE_REFUSED_HEIGHT));
-    EXPECT(refused(reserve_grant_level(12, longer.bytes, longer.length, few.bytes, few.length, 4096, 14),
-                   RESERVE_REFUSED_TABLE_LENGTH));
-    EXPECT(refused(reserve_grant_pages(12, shorter.bytes, shorter.length, few.bytes, few.length, 4096, 9),
-                   RESERVE_REFUSED_TABLE_LENGTH));
+    kept = keep(box);
+    EXPECT(refused(grant_level_on(13, longer, line, few, 4096, 14), RESERVE_REFUSED_HEIGHT));
+    EXPECT(refused(grant_level_on(12, longer, line, few, 4096, 14), RESERVE_REFUSED_TABLE_LENGTH));
+    EXPECT(refused(grant_pages_on(12, shorter, line, few, 4096, 9), RESERVE_REFUSED_TABLE_LENGTH));
+    EXPECT(refused(grant_level_on(3, box.table, line, few, 4096, 4), RESERVE_REFUSED_TABLE_LENGTH));
+    EXPECT(refused(grant_pages_on(3, box.table, line, few, 4096, 9), RESERVE_REFUSED_TABLE_LENGTH));
     EXPECT(refused(reserve_release(12, shorter.bytes, shorter.length, few.bytes, few.length, 4096),
                    RESERVE_REFUSED_TABLE_LENGTH));
     EXPECT(refused(reserve_release(12, NULL, 0, NULL, 0, 4096), RESERVE_REFUSED_TABLE_LENGTH));
     EXPECT(refused(reserve_release(3, box.table.bytes, box.table.length, NULL, 0, 4096), RESERVE_REFUSED_MOVES));
-    EXPECT(refused(reserve_grant_level(3, box.table.bytes, box.table.length, few.bytes, few.length, 4096, 4),
-                   RESERVE_REFUSED_MOVES));
-    EXPECT(refused(reserve_grant_pages(3, box.table.bytes, box.table.length, few.bytes, few.length, 4096, 9),
-                   RESERVE_REFUSED_MOVES));
+    EXPECT(refused(grant_level_on(3, box.table, box.line, few, 4096, 4), RESERVE_REFUSED_MOVES));
+    EXPECT(refused(grant_pages_on(3, box.table, box.line, few, 4096, 9), RESERVE_REFUSED_MOVES));
     EXPECT(refused(reserve_release(3, box.table.bytes, box.table.length, few.bytes, few.length, 4096),
                    RESERVE_REFUSED_MOVES));
     EXPECT(refused(grant_level(box, 4096, 4), RESERVE_REFUSED_TENANT));
@@ -302,14 +421,12 @@ static void arguments(void) {
     EXPECT(refused(grant_pages(box, 5, 7), RESERVE_REFUSED_HOLDS));
     EXPECT(refused(grant_pages(box, 6, 7), RESERVE_REFUSED_NO_ROOM));
     EXPECT(refused(release(box, 6), RESERVE_REFUSED_HOLDS_NONE));
-    EXPECT(moves_end_after(box, 0));
-    copy = copy_of(box.table);
-    EXPECT(memcmp(table, copy, box.table.length) == 0);
-    EXPECT(all_are(longer, 0x11) && all_are(shorter, 0x11) && all_are(few, 0x22));
-    free(table);
-    free(copy);
+    EXPECT(unchanged(box, kept));
+    EXPECT(all_are(longer, 0x11) && all_are(shorter, 0x11) && all_are(line, 0x11) && all_are(few, 0x22));
+    forget(kept);
     give_back(longer);
     give_back(shorter);
+    give_back(line);
     give_back(few);
     close_box(box);
 }
@@ -317,28 +434,28 @@ static void arguments(void) {
 /* 32 bytes are enough for the moves; sizes at their edges */
 static void edges(void) {
     struct lent table = lend(RESERVE_TABLE_BYTES, 1);
+    struct lent line = lend(RESERVE_LINE_BYTES, 1);
     struct lent moves = lend(RESERVE_MOVES_BYTES, 0x33);
     struct reserve_outcome got;
-    EXPECT(reserve_open(12, table.bytes, table.length) == RESERVE_DONE);
-    got = reserve_grant_pages(12, table.bytes, table.length, moves.bytes, moves.length, 4095, 4095);
+    EXPECT(open_on(12, table, line) == RESERVE_DONE);
+    got = grant_pages_on(12, table, line, moves, 4095, 4095);
     EXPECT(got.answer == RESERVE_DONE && got.node == 1 && got.moves == 0);
-    EXPECT(refused(reserve_grant_pages(12, table.bytes, table.length, moves.bytes, moves.length, 0, 4096),
-                   RESERVE_REFUSED_PAGES));
-    EXPECT(refused(reserve_grant_pages(12, table.bytes, table.length, moves.bytes, moves.length, 0, 0),
-                   RESERVE_REFUSED_NO_ROOM));
+    EXPECT(refused(grant_pages_on(12, table, line, moves, 0, 4096), RESERVE_REFUSED_PAGES));
+    EXPECT(refused(grant_pages_on(12, table, line, moves, 0, 0), RESERVE_REFUSED_NO_ROOM));
     got = reserve_release(12, table.bytes, table.length, moves.bytes, moves.length, 4095);
     EXPECT(got.answer == RESERVE_DONE && got.node == 1 && got.moves == 0);
     EXPECT(all_are(table, 0));
-    got = reserve_grant_pages(12, table.bytes, table.length, moves.bytes, moves.length, 0, 0);
+    got = grant_pages_on(12, table, line, moves, 0, 0);
     EXPECT(got.answer == RESERVE_DONE && got.node == 256 && node_of(table, 0) == 256);
-    got = reserve_grant_level(12, table.bytes, table.length, moves.bytes, moves.length, 1, 11);
+    got = grant_level_on(12, table, line, moves, 1, 11);
     EXPECT(got.answer == RESERVE_DONE && got.node == 2 && got.moves == 1 && is_direct(moves, 0, 0, 256, 384));
-    EXPECT(reserve_open(0, table.bytes, table.length) == RESERVE_DONE);
-    got = reserve_grant_level(0, table.bytes, table.length, moves.bytes, moves.length, 2, 0);
+    EXPECT(open_on(0, table, line) == RESERVE_DONE);
+    got = grant_level_on(0, table, line, moves, 2, 0);
     EXPECT(got.answer == RESERVE_DONE && got.node == 1);
-    EXPECT(refused(reserve_grant_level(0, table.bytes, table.length, moves.bytes, moves.length, 3, 1),
-                   RESERVE_REFUSED_LEVEL));
+    EXPECT(refused(grant_level_on(0, table, line, moves, 3, 1), RESERVE_REFUSED_LEVEL));
+    EXPECT(all_are(line, 0));
     give_back(table);
+    give_back(line);
     give_back(moves);
 }
 
@@ -404,16 +521,18 @@ static void bytes_of_moves(void) {
     for (n = 0; n <= RESERVE_MOVES_BYTES + 1; n++) {
         unsigned answer = n < RESERVE_MOVES_BYTES ? RESERVE_REFUSED_MOVES : RESERVE_DONE;
         struct lent table = lend(RESERVE_TABLE_BYTES, 0);
+        struct lent line = lend(RESERVE_LINE_BYTES, 0);
         struct lent moves = lend(n, 0x22);
-        EXPECT(reserve_grant_level(2, table.bytes, table.length, moves.bytes, n, 0, 1).answer == answer);
-        EXPECT(reserve_grant_pages(2, table.bytes, table.length, moves.bytes, n, 1, 1).answer == answer);
+        EXPECT(grant_level_on(2, table, line, moves, 0, 1).answer == answer);
+        EXPECT(grant_pages_on(2, table, line, moves, 1, 1).answer == answer);
         EXPECT(all_are(table, 0) == (n < RESERVE_MOVES_BYTES));
         put_node(table, 0, 2);
         put_node(table, 1, 3);
         EXPECT(reserve_release(2, table.bytes, table.length, moves.bytes, n, 1).answer == answer);
         EXPECT(node_of(table, 1) == (n < RESERVE_MOVES_BYTES ? 3 : 0));
-        EXPECT(all_are(moves, 0x22));
+        EXPECT(all_are(line, 0) && all_are(moves, 0x22));
         give_back(table);
+        give_back(line);
         give_back(moves);
     }
 }
@@ -434,10 +553,10 @@ static void not_in_order(void) {
     size_t i;
     for (i = 0; i < sizeof nodes / sizeof nodes[0]; i++) {
         struct box box = open_box(3);
-        uint8_t *copy;
+        struct kept kept;
         put_node(box.table, 100, nodes[i][0]);
         put_node(box.table, 4095, nodes[i][1]);
-        copy = copy_of(box.table);
+        kept = keep(box);
         EXPECT(refused(grant_level(box, 100, 0), RESERVE_REFUSED_NOT_IN_ORDER));
         EXPECT(refused(grant_level(box, 100, 1), RESERVE_REFUSED_NOT_IN_ORDER));
         EXPECT(refused(grant_pages(box, 100, 1), RESERVE_REFUSED_NOT_IN_ORDER));
@@ -445,8 +564,11 @@ static void not_in_order(void) {
         EXPECT(refused(release(box, 5), RESERVE_REFUSED_NOT_IN_ORDER));
         EXPECT(refused(grow(box, 5, 3), RESERVE_REFUSED_NOT_IN_ORDER));
         EXPECT(refused(grow(box, 100, 0), RESERVE_REFUSED_NOT_IN_ORDER));
-        EXPECT(memcmp(copy, box.table.bytes, box.table.length) == 0 && moves_end_after(box, 0));
-        free(copy);
+        EXPECT(join(box, 100, 0) == RESERVE_REFUSED_NOT_IN_ORDER && join(box, 5, 0) == RESERVE_REFUSED_NOT_IN_ORDER);
+        EXPECT(admits_nobody(box, RESERVE_REFUSED_NOT_IN_ORDER));
+        EXPECT(withdraw(box, 5) == RESERVE_REFUSED_NOT_IN_ORDER);
+        EXPECT(unchanged(box, kept));
+        forget(kept);
         close_box(box);
     }
 }
@@ -473,25 +595,25 @@ static void everybody(void) {
 
 /* ---- a start that is repeated */
 
-/* the node that the tenant has if it asks for just that level, else 8; not one byte of the table or of the list changes */
-static int told(struct box box, const uint8_t *table, struct reserve_outcome got, unsigned tenant, int same) {
+/* the node that the tenant has if it asks for just that level, else 8; not one lent byte changes */
+static int told(struct box box, struct kept kept, struct reserve_outcome got, unsigned tenant, int same) {
     int is_right = same ? granted(box, got, tenant, node_of(box.table, tenant), 0) : refused(got, RESERVE_REFUSED_HOLDS);
-    return is_right && moves_end_after(box, 0) && memcmp(table, box.table.bytes, box.table.length) == 0;
+    return is_right && unchanged(box, kept);
 }
 
 /* tenant 0 has two pages of eight, and tenant 4095 four: every level, and every size after it is rounded */
 static void start_again(struct box box) {
-    uint8_t *table = copy_of(box.table);
+    struct kept kept = keep(box);
     uint16_t level, pages;
     for (level = 0; level <= 3; level++) {
-        EXPECT(told(box, table, grant_level(box, 0, level), 0, level == 1));
-        EXPECT(told(box, table, grant_level(box, 4095, level), 4095, level == 2));
+        EXPECT(told(box, kept, grant_level(box, 0, level), 0, level == 1));
+        EXPECT(told(box, kept, grant_level(box, 4095, level), 4095, level == 2));
     }
     for (pages = 0; pages <= 7; pages++) {
-        EXPECT(told(box, table, grant_pages(box, 0, pages), 0, pages == 1));
-        EXPECT(told(box, table, grant_pages(box, 4095, pages), 4095, pages == 2 || pages == 3));
+        EXPECT(told(box, kept, grant_pages(box, 0, pages), 0, pages == 1));
+        EXPECT(told(box, kept, grant_pages(box, 4095, pages), 4095, pages == 2 || pages == 3));
     }
-    free(table);
+    forget(kept);
 }
 
 /* with room for another tenant, without, and after a growth there and back */
@@ -518,12 +640,14 @@ static void bytes_of_starting_again(void) {
     for (n = 0; n <= RESERVE_MOVES_BYTES + RESERVE_MOVE_BYTES; n++) {
         unsigned answer = n < RESERVE_MOVES_BYTES ? RESERVE_REFUSED_MOVES : RESERVE_DONE;
         struct lent table = lend(RESERVE_TABLE_BYTES, 0);
+        struct lent line = lend(RESERVE_LINE_BYTES, 0);
         struct lent moves = lend(n, 0x22);
         put_node(table, 4095, 2);
-        EXPECT(reserve_grant_level(2, table.bytes, table.length, moves.bytes, n, 4095, 1).answer == answer);
-        EXPECT(reserve_grant_pages(2, table.bytes, table.length, moves.bytes, n, 4095, 1).answer == answer);
-        EXPECT(all_are(moves, 0x22) && node_of(table, 4095) == 2);
+        EXPECT(grant_level_on(2, table, line, moves, 4095, 1).answer == answer);
+        EXPECT(grant_pages_on(2, table, line, moves, 4095, 1).answer == answer);
+        EXPECT(all_are(line, 0) && all_are(moves, 0x22) && node_of(table, 4095) == 2);
         give_back(table);
+        give_back(line);
         give_back(moves);
     }
 }
@@ -613,10 +737,10 @@ static void arguments_of_growth(void) {
     struct box box = open_box(3);
     struct lent longer = lend(RESERVE_TABLE_BYTES + 2, 0x11);
     struct lent few = lend(RESERVE_GROW_MOVES_BYTES - 1, 0x22);
-    uint8_t *table;
+    struct kept kept;
     EXPECT(granted(box, grant_level(box, 5, 1), 5, 4, 0));
     EXPECT(grant_level(box, 6, 2).answer == RESERVE_DONE);
-    table = copy_of(box.table);
+    kept = keep(box);
     EXPECT(refused(reserve_grow(13, longer.bytes, longer.length, few.bytes, few.length, 4096, 14), RESERVE_REFUSED_HEIGHT));
     EXPECT(refused(reserve_grow(12, longer.bytes, longer.length, few.bytes, few.length, 4096, 14), RESERVE_REFUSED_TABLE_LENGTH));
     EXPECT(refused(reserve_grow(12, NULL, 0, NULL, 0, 4096, 14), RESERVE_REFUSED_TABLE_LENGTH));
@@ -628,10 +752,9 @@ static void arguments_of_growth(void) {
     EXPECT(refused(grow(box, 5, 65535), RESERVE_REFUSED_LEVEL));
     EXPECT(refused(grow(box, 7, 3), RESERVE_REFUSED_HOLDS_NONE));
     EXPECT(refused(grow(box, 5, 3), RESERVE_REFUSED_NO_ROOM));
-    EXPECT(moves_end_after(box, 0));
-    EXPECT(memcmp(table, box.table.bytes, box.table.length) == 0);
+    EXPECT(unchanged(box, kept));
     EXPECT(all_are(longer, 0x11) && all_are(few, 0x22));
-    free(table);
+    forget(kept);
     give_back(longer);
     give_back(few);
     close_box(box);
@@ -654,6 +777,231 @@ static void bytes_of_growth(void) {
         give_back(table);
         give_back(moves);
     }
+}
+
+/* ---- the line */
+
+/* who waits, as 'tenant:level:passed' from the oldest on, and whether other than zeros stand behind them */
+static const char *text_of(struct lent line) {
+    static char text[32 * RESERVE_LINE_PLACES];
+    unsigned waiting = word(line.bytes), i;
+    size_t end = 0, behind;
+    text[0] = 0;
+    for (i = 0; i < waiting && i < RESERVE_LINE_PLACES; i++) {
+        const uint8_t *one = line.bytes + 2 + 6 * i;
+        end += (size_t)sprintf(text + end, "%s%u:%u:%u", i == 0 ? "" : " ", word(one), word(one + 2), word(one + 4));
+    }
+    for (behind = 2 + 6 * (size_t)waiting; behind < line.length; behind++) {
+        if (line.bytes[behind] != 0) {
+            return "more than who waits";
+        }
+    }
+    return text;
+}
+
+static int waits(struct box box, const char *who) { return strcmp(text_of(box.line), who) == 0; }
+
+/* four pages: who finds no room waits, and is admitted in turn or withdraws */
+static void waiting(void) {
+    struct box box = open_box(2);
+    EXPECT(granted(box, grant_level(box, 0, 1), 0, 2, 0));
+    EXPECT(granted(box, grant_level(box, 1, 1), 1, 3, 0));
+    EXPECT(refused(grant_level(box, 2, 1), RESERVE_REFUSED_NO_ROOM));
+    EXPECT(join(box, 2, 1) == RESERVE_DONE && waits(box, "2:1:0"));
+    EXPECT(join(box, 4095, 0) == RESERVE_DONE && waits(box, "2:1:0 4095:0:0"));
+    EXPECT(admits_nobody(box, RESERVE_DONE) && waits(box, "2:1:0 4095:0:0"));
+    EXPECT(released(box, release(box, 1), 1, 3, 0) && waits(box, "2:1:0 4095:0:0"));
+    EXPECT(admitted(box, admit(box), 2, 3, 0) && waits(box, "4095:0:0"));
+    EXPECT(admits_nobody(box, RESERVE_DONE) && waits(box, "4095:0:0"));
+    EXPECT(withdraw(box, 4095) == RESERVE_DONE && waits(box, ""));
+    EXPECT(withdraw(box, 4095) == RESERVE_REFUSED_HOLDS_NONE);
+    EXPECT(withdraw(box, 0) == RESERVE_REFUSED_HOLDS_NONE);
+    EXPECT(admits_nobody(box, RESERVE_DONE));
+    EXPECT(node_of(box.table, 0) == 2 && node_of(box.table, 2) == 3);
+    close_box(box);
+}
+
+/* the moves of an admit are those of a direct grant, and 32 bytes are enough for them */
+static void moves_of_admit(void) {
+    struct box box = open_crowded_box();
+    struct lent few = lend(RESERVE_MOVES_BYTES - 1, 0x22);
+    struct lent enough = lend(RESERVE_MOVES_BYTES, 0x22);
+    struct reserve_admission got;
+    EXPECT(join(box, 14, 1) == RESERVE_DONE);
+    EXPECT(admitted_nobody(admit_on(5, box.table, box.line, few), RESERVE_REFUSED_MOVES));
+    EXPECT(all_are(few, 0x22) && node_of(box.table, 10) == 34 && waits(box, "14:1:0"));
+    got = admit_on(5, box.table, box.line, enough);
+    EXPECT(got.answer == RESERVE_DONE && got.tenant == 14 && got.node == 17 && got.moves == 3);
+    EXPECT(is_direct(enough, 0, 4095, 5, 6) && is_direct(enough, 1, 10, 34, 44) && is_staged(enough, 2, 13, 12, 10));
+    EXPECT(node_of(box.table, 14) == 17 && node_of(box.table, 4095) == 6);
+    EXPECT(node_of(box.table, 10) == 44 && node_of(box.table, 13) == 10);
+    give_back(few);
+    give_back(enough);
+    close_box(box);
+}
+
+/* Tenant 5 waits for the whole of four pages. Others pass it, by admits and directly, and a start that is repeated passes nobody;
+ * from the eighth on all are barred, until it goes or gets its pages. */
+static struct box open_box_passed_eight_times(void) {
+    struct box box = open_box(2);
+    unsigned times;
+    EXPECT(granted(box, grant_level(box, 0, 1), 0, 2, 0));
+    EXPECT(join(box, 5, 2) == RESERVE_DONE && join(box, 6, 0) == RESERVE_DONE && join(box, 7, 1) == RESERVE_DONE);
+    EXPECT(admitted(box, admit(box), 6, 6, 0) && waits(box, "5:2:1 7:1:0"));
+    EXPECT(admits_nobody(box, RESERVE_DONE) && waits(box, "5:2:1 7:1:0"));
+    EXPECT(granted(box, grant_level(box, 8, 0), 8, 5, 2) && waits(box, "5:2:2 7:1:1"));
+    EXPECT(granted(box, grant_level(box, 8, 0), 8, 5, 0) && waits(box, "5:2:2 7:1:1"));
+    EXPECT(refused(grant_level(box, 9, 0), RESERVE_REFUSED_NO_ROOM) && waits(box, "5:2:2 7:1:1"));
+    EXPECT(release(box, 6).answer == RESERVE_DONE && release(box, 8).answer == RESERVE_DONE);
+    EXPECT(admitted(box, admit(box), 7, 3, 0) && waits(box, "5:2:3"));
+    EXPECT(released(box, release(box, 7), 7, 3, 0));
+    for (times = 4; times <= RESERVE_MOST_PASSES; times++) {
+        EXPECT(grant_pages(box, 8, 1).answer == RESERVE_DONE);
+        EXPECT(release(box, 8).answer == RESERVE_DONE);
+    }
+    EXPECT(waits(box, "5:2:8"));
+    return box;
+}
+
+static void passing(void) {
+    struct box box = open_box_passed_eight_times();
+    EXPECT(refused(grant_level(box, 8, 0), RESERVE_REFUSED_NO_ROOM));
+    EXPECT(refused(grant_pages(box, 8, 1), RESERVE_REFUSED_NO_ROOM));
+    EXPECT(granted(box, grant_level(box, 0, 1), 0, 2, 0));
+    EXPECT(refused(grant_level(box, 0, 0), RESERVE_REFUSED_HOLDS));
+    EXPECT(refused(grant_level(box, 5, 0), RESERVE_REFUSED_WAITS));
+    EXPECT(granted(box, grow(box, 0, 0), 0, 4, 0));
+    EXPECT(join(box, 9, 0) == RESERVE_DONE);
+    EXPECT(admits_nobody(box, RESERVE_DONE) && waits(box, "5:2:8 9:0:0"));
+    EXPECT(withdraw(box, 5) == RESERVE_DONE && waits(box, "9:0:0"));
+    EXPECT(admitted(box, admit(box), 9, 5, 0));
+    close_box(box);
+    box = open_box_passed_eight_times();
+    EXPECT(join(box, 9, 0) == RESERVE_DONE && released(box, release(box, 0), 0, 2, 0));
+    EXPECT(refused(grant_level(box, 8, 0), RESERVE_REFUSED_NO_ROOM));
+    EXPECT(admitted(box, admit(box), 5, 1, 0) && waits(box, "9:0:0"));
+    give_back_box(box);
+}
+
+/* as many as there are places, and each is admitted in its turn; one more is refused, but not before 8 and 18 */
+static void full_line(void) {
+    struct box box = open_box(6);
+    unsigned node = 64;
+    uint16_t i;
+    int right = 1;
+    for (i = 0; i < RESERVE_LINE_PLACES; i++) {
+        right = right && join(box, (uint16_t)(4095 - i), 0) == RESERVE_DONE && word(box.line.bytes) == i + 1u;
+    }
+    EXPECT(right);
+    EXPECT(join(box, 0, 0) == RESERVE_REFUSED_LINE_FULL);
+    EXPECT(join(box, 4095, 0) == RESERVE_REFUSED_WAITS && join(box, 4032, 6) == RESERVE_REFUSED_WAITS);
+    EXPECT(granted(box, grant_level(box, 1, 0), 1, 64, 0));
+    EXPECT(join(box, 1, 0) == RESERVE_REFUSED_HOLDS);
+    EXPECT(released(box, release(box, 1), 1, 64, 0));
+    EXPECT(withdraw(box, 4095) == RESERVE_DONE && withdraw(box, 4032) == RESERVE_DONE && withdraw(box, 4060) == RESERVE_DONE);
+    EXPECT(word(box.line.bytes) == 61 && join(box, 4095, 1) == RESERVE_DONE);
+    for (i = 4094; i > 4032; i--) {
+        right = right && (i == 4060 || admitted(box, admit(box), i, node++, 0));
+    }
+    EXPECT(right && waits(box, "4095:1:0"));
+    EXPECT(admitted(box, admit(box), 4095, 62, 1) && waits(box, ""));
+    close_box(box);
+}
+
+/* every refusal of the three calls, with all later ones present too: the first is answered, and no byte changes */
+static void arguments_of_line(void) {
+    struct box box = open_box(3);
+    struct lent longer = lend(RESERVE_TABLE_BYTES + 2, 0x11);
+    struct lent shorter = lend(RESERVE_LINE_BYTES - 1, 0x11);
+    struct lent few = lend(RESERVE_MOVES_BYTES - 1, 0x22);
+    struct kept kept;
+    EXPECT(granted(box, grant_level(box, 5, 3), 5, 1, 0) && join(box, 6, 3) == RESERVE_DONE);
+    kept = keep(box);
+    EXPECT(join_on(13, longer, shorter, 4096, 14) == RESERVE_REFUSED_HEIGHT);
+    EXPECT(admitted_nobody(admit_on(13, longer, shorter, few), RESERVE_REFUSED_HEIGHT));
+    EXPECT(withdraw_on(13, longer, shorter, 4096) == RESERVE_REFUSED_HEIGHT);
+    EXPECT(join_on(3, box.table, shorter, 4096, 4) == RESERVE_REFUSED_TABLE_LENGTH);
+    EXPECT(admitted_nobody(admit_on(3, box.table, shorter, few), RESERVE_REFUSED_TABLE_LENGTH));
+    EXPECT(withdraw_on(3, box.table, shorter, 4096) == RESERVE_REFUSED_TABLE_LENGTH);
+    EXPECT(admitted_nobody(admit_on(3, box.table, box.line, few), RESERVE_REFUSED_MOVES));
+    EXPECT(admitted_nobody(admit_on(3, box.table, box.line, nothing), RESERVE_REFUSED_MOVES));
+    EXPECT(join(box, 4096, 4) == RESERVE_REFUSED_TENANT && join(box, 65535, 65535) == RESERVE_REFUSED_TENANT);
+    EXPECT(withdraw(box, 4096) == RESERVE_REFUSED_TENANT && withdraw(box, 65535) == RESERVE_REFUSED_TENANT);
+    EXPECT(join(box, 5, 4) == RESERVE_REFUSED_LEVEL && join(box, 6, 65535) == RESERVE_REFUSED_LEVEL);
+    EXPECT(join(box, 5, 3) == RESERVE_REFUSED_HOLDS && join(box, 5, 0) == RESERVE_REFUSED_HOLDS);
+    EXPECT(join(box, 6, 3) == RESERVE_REFUSED_WAITS && join(box, 6, 0) == RESERVE_REFUSED_WAITS);
+    EXPECT(refused(grant_level(box, 6, 3), RESERVE_REFUSED_WAITS) && refused(grant_pages(box, 6, 0), RESERVE_REFUSED_WAITS));
+    EXPECT(withdraw(box, 5) == RESERVE_REFUSED_HOLDS_NONE && withdraw(box, 7) == RESERVE_REFUSED_HOLDS_NONE);
+    EXPECT(unchanged(box, kept));
+    EXPECT(all_are(longer, 0x11) && all_are(shorter, 0x11) && all_are(few, 0x22));
+    forget(kept);
+    give_back(longer);
+    give_back(shorter);
+    give_back(few);
+    give_back_box(box);
+}
+
+/* eight pages, of which tenant 50 holds two, with tenants 100 and 4095 in line; then one number there is another */
+static struct box open_box_with_line(unsigned place, unsigned number) {
+    struct box box = open_box(3);
+    EXPECT(granted(box, grant_level(box, 50, 1), 50, 4, 0));
+    EXPECT(join(box, 100, 1) == RESERVE_DONE && join(box, 4095, 3) == RESERVE_DONE);
+    put_number(box.line, place, number);
+    return box;
+}
+
+/* lines that no call leaves: every call that takes one refuses it, after what is wrong with its arguments and before all else; a
+ * release and a growth take none */
+static void lines_not_in_order(void) {
+    static const unsigned wrong[][2] = {{0, 65},   {0, 65535}, {0, 1},    {0, 4},    {1, 4096}, {1, 65535}, {1, 4095}, {1, 50},
+                                        {4, 100},  {2, 4},     {2, 256},  {5, 65535}, {3, 9},   {6, 65535}, {7, 1},    {8, 1},
+                                        {9, 256},  {192, 1},   {192, 32768}};
+    size_t i;
+    for (i = 0; i < sizeof wrong / sizeof wrong[0]; i++) {
+        struct box box = open_box_with_line(wrong[i][0], wrong[i][1]);
+        struct kept kept = keep(box);
+        EXPECT(refused(grant_level(box, 5, 0), RESERVE_REFUSED_NOT_IN_ORDER));
+        EXPECT(refused(grant_level(box, 50, 1), RESERVE_REFUSED_NOT_IN_ORDER));
+        EXPECT(refused(grant_level(box, 50, 2), RESERVE_REFUSED_NOT_IN_ORDER));
+        EXPECT(refused(grant_pages(box, 100, 1), RESERVE_REFUSED_NOT_IN_ORDER));
+        EXPECT(refused(grant_level(box, 5, 4), RESERVE_REFUSED_LEVEL));
+        EXPECT(join(box, 5, 0) == RESERVE_REFUSED_NOT_IN_ORDER && join(box, 50, 0) == RESERVE_REFUSED_NOT_IN_ORDER);
+        EXPECT(join(box, 100, 0) == RESERVE_REFUSED_NOT_IN_ORDER && join(box, 5, 4) == RESERVE_REFUSED_LEVEL);
+        EXPECT(admits_nobody(box, RESERVE_REFUSED_NOT_IN_ORDER));
+        EXPECT(withdraw(box, 100) == RESERVE_REFUSED_NOT_IN_ORDER && withdraw(box, 5) == RESERVE_REFUSED_NOT_IN_ORDER);
+        EXPECT(unchanged(box, kept));
+        EXPECT(granted(box, grow(box, 50, 0), 50, 8, 0) && released(box, release(box, 50), 50, 8, 0));
+        EXPECT(memcmp(kept.line, box.line.bytes, box.line.length) == 0);
+        forget(kept);
+        give_back_box(box);
+    }
+}
+
+/* lines at the edges of what is in order: counts up to eight, the older one's or the younger one's, levels up to the height, and
+ * three zeros for tenant 0, who waits for a page */
+static void lines_in_order(void) {
+    static const struct {
+        unsigned place, number;
+        const char *who;
+    } right[] = {{3, 8, "100:1:8 4095:3:0"}, {6, 8, "100:1:0 4095:3:8"}, {2, 3, "100:3:0 4095:3:0"}, {1, 0, "0:1:0 4095:3:0"},
+                 {0, 3, "100:1:0 4095:3:0 0:0:0"}};
+    size_t i;
+    for (i = 0; i < sizeof right / sizeof right[0]; i++) {
+        struct box box = open_box_with_line(right[i].place, right[i].number);
+        EXPECT(waits(box, right[i].who));
+        EXPECT(withdraw(box, 7) == RESERVE_REFUSED_HOLDS_NONE && waits(box, right[i].who));
+        EXPECT(withdraw(box, 4095) == RESERVE_DONE && join(box, 4094, 2) == RESERVE_DONE);
+        give_back_box(box);
+    }
+}
+
+/* how many wait, and of each the tenant, the level and the count, the low byte first */
+static void byte_order_of_line(void) {
+    static const uint8_t numbers[] = {2, 0, 0x02, 0x01, 12, 0, 0, 0, 0xFF, 0x0F, 3, 0, 0, 0};
+    struct box box = open_box(12);
+    EXPECT(join(box, 258, 12) == RESERVE_DONE && join(box, 4095, 3) == RESERVE_DONE);
+    EXPECT(memcmp(box.line.bytes, numbers, sizeof numbers) == 0);
+    give_back_box(box);
 }
 
 /* ---- the page map */
@@ -715,6 +1063,7 @@ static int same(struct reserve_outcome one, struct reserve_outcome other) {
 
 static void side_by_side(void) {
     struct box apart = open_box(5);
+    struct lent line = lend(RESERVE_LINE_BYTES, 0);
     struct lent map = lend(RESERVE_MAP_BYTES, 0);
     struct lent joint = lend(RESERVE_MAP_BYTES + RESERVE_TABLE_BYTES + RESERVE_MAP_BYTES, 0);
     uint8_t *table = joint.bytes + RESERVE_MAP_BYTES;
@@ -725,7 +1074,8 @@ static void side_by_side(void) {
         uint8_t *moves = t % 2 == 0 ? table - RESERVE_MOVES_BYTES : behind;
         struct reserve_outcome got;
         memset(moves, 0x77, RESERVE_MOVES_BYTES);
-        got = reserve_grant_level(5, table, RESERVE_TABLE_BYTES, moves, RESERVE_MOVES_BYTES, (uint16_t)t, levels[t]);
+        got = reserve_grant_level(5, table, RESERVE_TABLE_BYTES, line.bytes, line.length, moves, RESERVE_MOVES_BYTES,
+                                  (uint16_t)t, levels[t]);
         EXPECT(same(got, grant_level(apart, (uint16_t)t, levels[t])) && got.answer == RESERVE_DONE);
         EXPECT(memcmp(table, apart.table.bytes, RESERVE_TABLE_BYTES) == 0);
         EXPECT(memcmp(moves, apart.moves.bytes, RESERVE_MOVES_BYTES) == 0);
@@ -748,8 +1098,47 @@ static void side_by_side(void) {
     EXPECT(reserve_draw(5, table, RESERVE_TABLE_BYTES, table + 2, 0) == RESERVE_REFUSED_TOO_SHORT);
     EXPECT(memcmp(table, apart.table.bytes, RESERVE_TABLE_BYTES) == 0);
     close_box(apart);
+    give_back(line);
     give_back(map);
     give_back(joint);
+}
+
+/* a part of lent bytes; those around it are not its guards, so it is not given back */
+static struct lent part_of(struct lent whole, size_t from, size_t length) {
+    struct lent part = {whole.whole, whole.bytes + from, length};
+    return part;
+}
+
+/* a table, a line and moves side by side, each of them first, in the middle and last: calls that move others and pass those who
+ * wait come out as on bytes that lie apart */
+static void three_side_by_side(void) {
+    static const size_t order[][3] = {{0, 1, 2}, {0, 2, 1}, {1, 0, 2}, {1, 2, 0}, {2, 0, 1}, {2, 1, 0}};
+    static const size_t lengths[] = {RESERVE_TABLE_BYTES, RESERVE_LINE_BYTES, RESERVE_GROW_MOVES_BYTES + 7};
+    size_t i, j;
+    for (i = 0; i < sizeof order / sizeof order[0]; i++) {
+        struct box apart = open_crowded_box(), joint = apart;
+        struct lent whole = lend(lengths[0] + lengths[1] + lengths[2], 0), part[3];
+        size_t from = 0;
+        for (j = 0; j < 3; j++) {
+            part[order[i][j]] = part_of(whole, from, lengths[order[i][j]]);
+            from += lengths[order[i][j]];
+        }
+        joint.table = part[0];
+        joint.line = part[1];
+        joint.moves = part[2];
+        memcpy(joint.table.bytes, apart.table.bytes, RESERVE_TABLE_BYTES);
+        EXPECT(join(apart, 20, 5) == RESERVE_DONE && join(joint, 20, 5) == RESERVE_DONE);
+        EXPECT(join(apart, 14, 1) == RESERVE_DONE && join(joint, 14, 1) == RESERVE_DONE);
+        EXPECT(admitted(apart, admit(apart), 14, 17, 3) && admitted(joint, admit(joint), 14, 17, 3));
+        EXPECT(same(grant_level(apart, 21, 0), grant_level(joint, 21, 0)));
+        EXPECT(waits(apart, "20:5:2") && waits(joint, "20:5:2"));
+        EXPECT(memcmp(joint.table.bytes, apart.table.bytes, RESERVE_TABLE_BYTES) == 0);
+        EXPECT(memcmp(joint.moves.bytes, apart.moves.bytes, apart.moves.length) == 0);
+        EXPECT(withdraw(joint, 20) == RESERVE_DONE && waits(joint, ""));
+        EXPECT(memcmp(joint.table.bytes, apart.table.bytes, RESERVE_TABLE_BYTES) == 0);
+        give_back_box(apart);
+        give_back(whole);
+    }
 }
 
 /* ---- the pages of a node */
@@ -799,6 +1188,17 @@ static int read_refused(const uint8_t *journal, size_t length, size_t at, unsign
     return got.answer == answer && got.kind == RESERVE_KIND_NONE && got.who == 0 && got.size == 0 && got.offset == offset;
 }
 
+/* behind an open, a byte of a kind that there is not is refused */
+static void kinds(void) {
+    unsigned kind;
+    for (kind = 0; kind <= 255; kind++) {
+        const uint8_t journal[] = {1, 2, (uint8_t)kind, 0, 0, 0, 0};
+        int is_known = (kind >= RESERVE_KIND_OPEN && kind <= RESERVE_KIND_GROW) ||
+                       (kind >= RESERVE_KIND_JOIN && kind <= RESERVE_KIND_WITHDRAW);
+        EXPECT((reserve_read(journal, sizeof journal, 2).answer == RESERVE_REFUSED_UNKNOWN_KIND) == !is_known);
+    }
+}
+
 static void reading(void) {
     static const uint8_t sample[] = {1, 2, 2, 0, 0, 1, 2, 1, 0, 0, 2, 2, 0, 0, 4, 7, 0, 3, 3, 0, 1, 0};
     struct lent journal = lend(sizeof sample, 0);
@@ -830,34 +1230,55 @@ static int wrote(struct reserve_written got, size_t length) { return got.answer 
 static int no_room(struct reserve_written got) { return got.answer == RESERVE_REFUSED_TOO_SHORT && got.length == 0; }
 
 static void writing(void) {
-    static const uint8_t records[] = {1, 255, 2, 2, 1, 200, 3, 255, 15, 0, 16, 4, 254, 255, 5, 3, 1, 255, 0x44};
+    static const uint8_t records[] = {1,   255, 2, 2, 1,   200, 3, 255, 15, 0,  16,  4,   254, 255,
+                                      5,   3,   1, 255, 9, 255, 15, 12, 10, 11, 255, 255, 0x44};
     struct lent out = lend(sizeof records, 0x44);
-    size_t n;
     EXPECT(wrote(reserve_write_open(255, out.bytes, out.length), 2));
     EXPECT(wrote(reserve_write_grant_level(258, 200, out.bytes + 2, out.length - 2), 4));
     EXPECT(wrote(reserve_write_grant_pages(4095, 4096, out.bytes + 6, out.length - 6), 5));
     EXPECT(wrote(reserve_write_release(65534, out.bytes + 11, out.length - 11), 3));
     EXPECT(wrote(reserve_write_grow(259, 255, out.bytes + 14, out.length - 14), 4));
+    EXPECT(wrote(reserve_write_join(4095, 12, out.bytes + 18, out.length - 18), 4));
+    EXPECT(wrote(reserve_write_admit(out.bytes + 22, out.length - 22), 1));
+    EXPECT(wrote(reserve_write_withdraw(65535, out.bytes + 23, out.length - 23), 3));
     EXPECT(memcmp(out.bytes, records, sizeof records) == 0);
     EXPECT(reads(out.bytes, 14, 2, RESERVE_KIND_GRANT_LEVEL, 258, 200, 6));
     EXPECT(reads(out.bytes, 14, 6, RESERVE_KIND_GRANT_PAGES, 4095, 4096, 11));
     EXPECT(reads(out.bytes, 14, 11, RESERVE_KIND_RELEASE, 65534, 0, 14));
     EXPECT(reads(out.bytes, 18, 14, RESERVE_KIND_GROW, 259, 255, 18));
+    EXPECT(reads(out.bytes, 22, 18, RESERVE_KIND_JOIN, 4095, 12, 22));
+    EXPECT(reads(out.bytes, 23, 22, RESERVE_KIND_ADMIT, 0, 0, 23));
+    EXPECT(reads(out.bytes, 26, 22, RESERVE_KIND_ADMIT, 0, 0, 23));
+    EXPECT(reads(out.bytes, 26, 23, RESERVE_KIND_WITHDRAW, 65535, 0, 26));
     EXPECT(read_refused(out.bytes, 17, 14, RESERVE_REFUSED_CUT_OFF, 14));
+    EXPECT(read_refused(out.bytes, 21, 18, RESERVE_REFUSED_CUT_OFF, 18));
+    EXPECT(read_refused(out.bytes, 25, 23, RESERVE_REFUSED_CUT_OFF, 23));
     give_back(out);
+}
+
+/* each record into fewer bytes than it has, just as many, and more */
+static void bytes_of_records(void) {
+    struct lent out;
+    size_t n;
     for (n = 0; n <= RESERVE_RECORD_BYTES; n++) {
         out = lend(n, 0x44);
-        EXPECT(n < 2 ? no_room(reserve_write_open(3, out.bytes, n)) : 1);
-        EXPECT(n < 4 ? no_room(reserve_write_grant_level(3, 1, out.bytes, n)) : 1);
-        EXPECT(n < 5 ? no_room(reserve_write_grant_pages(3, 1, out.bytes, n)) : 1);
-        EXPECT(n < 3 ? no_room(reserve_write_release(3, out.bytes, n)) : 1);
-        EXPECT(n < 4 ? no_room(reserve_write_grow(3, 1, out.bytes, n)) : 1);
+        EXPECT(n >= 2 || no_room(reserve_write_open(3, out.bytes, n)));
+        EXPECT(n >= 4 || no_room(reserve_write_grant_level(3, 1, out.bytes, n)));
+        EXPECT(n >= 5 || no_room(reserve_write_grant_pages(3, 1, out.bytes, n)));
+        EXPECT(n >= 3 || no_room(reserve_write_release(3, out.bytes, n)));
+        EXPECT(n >= 4 || no_room(reserve_write_grow(3, 1, out.bytes, n)));
+        EXPECT(n >= 4 || no_room(reserve_write_join(3, 1, out.bytes, n)));
+        EXPECT(n >= 1 || no_room(reserve_write_admit(out.bytes, n)));
+        EXPECT(n >= 3 || no_room(reserve_write_withdraw(3, out.bytes, n)));
         EXPECT(all_are(out, 0x44));
+        EXPECT(n < 1 || wrote(reserve_write_admit(out.bytes, n), 1));
         EXPECT(n < 3 || wrote(reserve_write_release(3, out.bytes, n), 3));
+        EXPECT(n < 3 || wrote(reserve_write_withdraw(3, out.bytes, n), 3));
         EXPECT(n < 4 || wrote(reserve_write_grow(3, 1, out.bytes, n), 4));
+        EXPECT(n < 4 || wrote(reserve_write_join(3, 1, out.bytes, n), 4));
         give_back(out);
     }
-    EXPECT(no_room(reserve_write_open(3, NULL, 0)));
+    EXPECT(no_room(reserve_write_open(3, NULL, 0)) && no_room(reserve_write_admit(NULL, 0)));
     out = lend(2 * RESERVE_RECORD_BYTES, 0x44);
     EXPECT(wrote(reserve_write_grant_pages(3, 1, out.bytes, out.length), RESERVE_RECORD_BYTES));
     give_back(out);
@@ -865,6 +1286,7 @@ static void writing(void) {
 
 int main(void) {
     opening();
+    lengths();
     four_pages();
     most_moves();
     bytes_of_four_moves();
@@ -883,11 +1305,22 @@ int main(void) {
     bytes_of_seven_moves();
     arguments_of_growth();
     bytes_of_growth();
+    waiting();
+    moves_of_admit();
+    passing();
+    full_line();
+    arguments_of_line();
+    lines_not_in_order();
+    lines_in_order();
+    byte_order_of_line();
     page_map();
     side_by_side();
+    three_side_by_side();
     node_pages();
     reading();
+    kinds();
     writing();
+    bytes_of_records();
     printf("%d passed, %d failed\n", passed, failed);
     return failed == 0 ? 0 : 1;
 }

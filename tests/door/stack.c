@@ -1,7 +1,7 @@
 /*
  * How much stack each function uses: it runs on a stack of its own that was painted before, and the paint left is counted.
- * Grants, releases and growths are those that move the most tenants. The last line is 'N passed, M failed'; a function that uses more
- * than the header says is a failure.
+ * Grants, admits, releases and growths are those that move the most tenants, and the line is as long as it can be. The last line
+ * is 'N passed, M failed'; a function that uses more than the header says is a failure.
  */
 #define _XOPEN_SOURCE 700
 #include <stdio.h>
@@ -13,7 +13,8 @@
 enum { STACK = 256 * 1024, MOST = 32 * 1024, PAINT = 0xA5 };
 
 static uint8_t stack[STACK];
-static uint8_t table[RESERVE_TABLE_BYTES], moves[RESERVE_GROW_MOVES_BYTES], map[RESERVE_MAP_BYTES], record[RESERVE_RECORD_BYTES];
+static uint8_t table[RESERVE_TABLE_BYTES], line[RESERVE_LINE_BYTES], moves[RESERVE_GROW_MOVES_BYTES], map[RESERVE_MAP_BYTES];
+static uint8_t record[RESERVE_RECORD_BYTES];
 static struct reserve_outcome got;
 static ucontext_t here, there;
 static int passed, failed;
@@ -25,9 +26,21 @@ static uint16_t grower;
 static long overhead;
 
 static void nothing(void) {}
-static void opens(void) { reserve_open(12, table, sizeof table); }
-static void grants_level(void) { got = reserve_grant_level(12, table, sizeof table, moves, sizeof moves, 6, 1); }
-static void grants_pages(void) { got = reserve_grant_pages(12, table, sizeof table, moves, sizeof moves, 6, 1); }
+static void opens(void) { reserve_open(12, table, sizeof table, line, sizeof line); }
+
+static void grants(uint16_t tenant, uint16_t level) {
+    got = reserve_grant_level(12, table, sizeof table, line, sizeof line, moves, sizeof moves, tenant, level);
+}
+
+static void grants_level(void) { grants(6, 1); }
+
+static void grants_pages(void) {
+    got = reserve_grant_pages(12, table, sizeof table, line, sizeof line, moves, sizeof moves, 6, 1);
+}
+
+static void joins(void) { reserve_join(12, table, sizeof table, line, sizeof line, 6, 1); }
+static void admits(void) { got.moves = reserve_admit(12, table, sizeof table, line, sizeof line, moves, sizeof moves).moves; }
+static void withdraws(void) { reserve_withdraw(12, table, sizeof table, line, sizeof line, 1000); }
 static void releases(void) { got = reserve_release(12, table, sizeof table, moves, sizeof moves, 1); }
 static void grows(void) { got = reserve_grow(12, table, sizeof table, moves, sizeof moves, grower, 5); }
 static void names_pages(void) { reserve_node_pages(12, 4100); }
@@ -35,6 +48,9 @@ static void draws(void) { reserve_draw(12, table, sizeof table, map, sizeof map)
 static void counts(void) { reserve_count(map, sizeof map); }
 static void writes(void) { reserve_write_grant_pages(5, 6, record, sizeof record); }
 static void writes_growth(void) { reserve_write_grow(5, 6, record, sizeof record); }
+static void writes_join(void) { reserve_write_join(5, 6, record, sizeof record); }
+static void writes_admit(void) { reserve_write_admit(record, sizeof record); }
+static void writes_withdrawal(void) { reserve_write_withdraw(5, record, sizeof record); }
 static void reads(void) { reserve_read(record, sizeof record, 0); }
 
 static long used_by(void (*call)(void)) {
@@ -56,9 +72,17 @@ static long used_by(void (*call)(void)) {
 static void fill_table(void) {
     static const uint16_t tenants[][2] = {{5, 3}, {3, 2}, {4, 2}, {1, 1}, {2, 0}};
     size_t i;
-    reserve_open(12, table, sizeof table);
+    opens();
     for (i = 0; i < sizeof tenants / sizeof tenants[0]; i++) {
-        reserve_grant_level(12, table, sizeof table, moves, sizeof moves, tenants[i][0], tenants[i][1]);
+        grants(tenants[i][0], tenants[i][1]);
+    }
+}
+
+/* so many tenants that wait for the whole reserve */
+static void fill_line(uint16_t number) {
+    uint16_t i;
+    for (i = 0; i < number; i++) {
+        reserve_join(12, table, sizeof table, line, sizeof line, 1000 + i, 12);
     }
 }
 
@@ -67,10 +91,10 @@ static void fill_for_growth(void) {
     static const unsigned counts[] = {3, 3, 3, 1, 3, 1, 1, 2};
     uint16_t tenant = 0;
     unsigned i, level;
-    reserve_open(12, table, sizeof table);
+    opens();
     for (level = 0; level < sizeof counts / sizeof counts[0]; level++) {
         for (i = 0; i < counts[level]; i++) {
-            reserve_grant_level(12, table, sizeof table, moves, sizeof moves, tenant++, (uint16_t)level);
+            grants(tenant++, (uint16_t)level);
         }
     }
     grower = 0;
@@ -96,10 +120,17 @@ int main(void) {
     overhead = used_by(nothing);
     measure("reserve_open", opens, 0);
     fill_table();
+    fill_line(RESERVE_LINE_PLACES);
     measure("reserve_grant_level", grants_level, 3);
     measure("reserve_release", releases, 4);
     fill_table();
+    fill_line(RESERVE_LINE_PLACES);
     measure("reserve_grant_pages", grants_pages, 3);
+    fill_table();
+    fill_line(RESERVE_LINE_PLACES - 1);
+    measure("reserve_join", joins, 0);
+    measure("reserve_admit", admits, 3);
+    measure("reserve_withdraw", withdraws, 0);
     fill_for_growth();
     measure("reserve_grow", grows, 7);
     measure("reserve_node_pages", names_pages, 0);
@@ -107,6 +138,9 @@ int main(void) {
     measure("reserve_count", counts, 0);
     measure("reserve_write_grant_pages", writes, 0);
     measure("reserve_write_grow", writes_growth, 0);
+    measure("reserve_write_join", writes_join, 0);
+    measure("reserve_write_admit", writes_admit, 0);
+    measure("reserve_write_withdraw", writes_withdrawal, 0);
     measure("reserve_read", reads, 0);
     printf("%d passed, %d failed\n", passed, failed);
     return failed == 0 ? 0 : 1;

@@ -1,16 +1,26 @@
 /* Mistakes to plant between the fuzzer and the planner, one at a time (-DMISTAKE=1 and so on): the linker hands each call to
  * __wrap_..., which asks the planner as __real_... and spoils what it asks or what comes back. Each shows in one rare situation
  * only. */
+#include <string.h>
+
 #include "reserve.h"
 
-struct reserve_outcome __real_reserve_grant_level(uint16_t height, uint8_t *table, size_t table_length, uint8_t *moves,
-                                                  size_t moves_length, uint16_t tenant, uint16_t level);
-struct reserve_outcome __real_reserve_grant_pages(uint16_t height, uint8_t *table, size_t table_length, uint8_t *moves,
-                                                  size_t moves_length, uint16_t tenant, uint16_t pages);
+struct reserve_outcome __real_reserve_grant_level(uint16_t height, uint8_t *table, size_t table_length, uint8_t *line,
+                                                  size_t line_length, uint8_t *moves, size_t moves_length, uint16_t tenant,
+                                                  uint16_t level);
+struct reserve_outcome __real_reserve_grant_pages(uint16_t height, uint8_t *table, size_t table_length, uint8_t *line,
+                                                  size_t line_length, uint8_t *moves, size_t moves_length, uint16_t tenant,
+                                                  uint16_t pages);
 struct reserve_outcome __real_reserve_release(uint16_t height, uint8_t *table, size_t table_length, uint8_t *moves,
                                               size_t moves_length, uint16_t tenant);
 struct reserve_outcome __real_reserve_grow(uint16_t height, uint8_t *table, size_t table_length, uint8_t *moves,
                                            size_t moves_length, uint16_t tenant, uint16_t level);
+uint16_t __real_reserve_join(uint16_t height, const uint8_t *table, size_t table_length, uint8_t *line, size_t line_length,
+                             uint16_t tenant, uint16_t level);
+struct reserve_admission __real_reserve_admit(uint16_t height, uint8_t *table, size_t table_length, uint8_t *line,
+                                              size_t line_length, uint8_t *moves, size_t moves_length);
+uint16_t __real_reserve_withdraw(uint16_t height, const uint8_t *table, size_t table_length, uint8_t *line, size_t line_length,
+                                 uint16_t tenant);
 uint16_t __real_reserve_draw(uint16_t height, const uint8_t *table, size_t table_length, uint8_t *map, size_t map_length);
 struct reserve_counted __real_reserve_count(const uint8_t *map, size_t map_length);
 struct reserve_reading __real_reserve_read(const uint8_t *journal, size_t journal_length, size_t offset);
@@ -46,28 +56,54 @@ static int node_in(const uint8_t *table, size_t table_length, uint16_t tenant) {
     return in_table ? number(table + 2 * tenant) : 0;
 }
 
+/* The bytes of a line's count of how many wait, of those who wait, and of the number of passes of one of them. */
+enum { COUNT_BYTES = 2, WAITING_BYTES = 6, PASSED = COUNT_BYTES + 4 };
+
+/* How many wait in a line of the right length, else 0. */
+static int waiting_in(const uint8_t *line, size_t line_length) { return line_length == RESERVE_LINE_BYTES ? number(line) : 0; }
+
+/* Of those who were passed eight times, makes it seven; whether there was one. */
+static int lift_bar(uint8_t *line, size_t line_length) {
+    int lifted = 0;
+    for (int place = 0; place < waiting_in(line, line_length) && place < RESERVE_LINE_PLACES; place++) {
+        uint8_t *passed = line + PASSED + WAITING_BYTES * place;
+        if (number(passed) == RESERVE_MOST_PASSES) {
+            passed[0]--;
+            lifted = 1;
+        }
+    }
+    return lifted;
+}
+
 /* 4: a grant by level that moves three writes one byte past the last move.
- * 14: one that is repeated by a tenant of level 3 is refused with 8, on a reserve of height 9. */
-struct reserve_outcome __wrap_reserve_grant_level(uint16_t height, uint8_t *table, size_t table_length, uint8_t *moves,
-                                                  size_t moves_length, uint16_t tenant, uint16_t level) {
+ * 14: one that is repeated by a tenant of level 3 is refused with 8, on a reserve of height 9.
+ * 18: one of level 2 passes somebody who was passed eight times. */
+struct reserve_outcome __wrap_reserve_grant_level(uint16_t height, uint8_t *table, size_t table_length, uint8_t *line,
+                                                  size_t line_length, uint8_t *moves, size_t moves_length, uint16_t tenant,
+                                                  uint16_t level) {
     int node = node_in(table, table_length, tenant);
-    struct reserve_outcome got = __real_reserve_grant_level(height, table, table_length, moves, moves_length, tenant, level);
+    struct reserve_outcome got =
+        __real_reserve_grant_level(height, table, table_length, line, line_length, moves, moves_length, tenant, level);
     if (MISTAKE == 4 && got.moves == 3) moves[3 * RESERVE_MOVE_BYTES] ^= 1;
     if (MISTAKE == 14 && got.answer == RESERVE_DONE && node != 0 && height == 9 && level == 3) {
         got.answer = RESERVE_REFUSED_HOLDS;
         got.node = 0;
     }
+    if (MISTAKE == 18 && got.answer == RESERVE_REFUSED_NO_ROOM && level == 2 && lift_bar(line, line_length))
+        got = __real_reserve_grant_level(height, table, table_length, line, line_length, moves, moves_length, tenant, level);
     return got;
 }
 
 /* 5: a spoilt table is refused as "no room" where one page is asked of the tallest reserve.
  * 9: an image that names no size gets a guard page behind its sixteen pages on a reserve of height 5.
  * 15: a tenant of level 2 or more that names all pages of its block is told its node, as if they had no guard page. */
-struct reserve_outcome __wrap_reserve_grant_pages(uint16_t height, uint8_t *table, size_t table_length, uint8_t *moves,
-                                                  size_t moves_length, uint16_t tenant, uint16_t pages) {
+struct reserve_outcome __wrap_reserve_grant_pages(uint16_t height, uint8_t *table, size_t table_length, uint8_t *line,
+                                                  size_t line_length, uint8_t *moves, size_t moves_length, uint16_t tenant,
+                                                  uint16_t pages) {
     uint16_t asked = MISTAKE == 9 && height == 5 && pages == 0 ? 16 : pages;
     int node = node_in(table, table_length, tenant);
-    struct reserve_outcome got = __real_reserve_grant_pages(height, table, table_length, moves, moves_length, tenant, asked);
+    struct reserve_outcome got =
+        __real_reserve_grant_pages(height, table, table_length, line, line_length, moves, moves_length, tenant, asked);
     if (MISTAKE == 5 && got.answer == RESERVE_REFUSED_NOT_IN_ORDER && height == RESERVE_MAX_HEIGHT && pages == 1)
         got.answer = RESERVE_REFUSED_NO_ROOM;
     if (MISTAKE == 15 && got.answer == RESERVE_REFUSED_HOLDS && pages >= 4 &&
@@ -76,6 +112,47 @@ struct reserve_outcome __wrap_reserve_grant_pages(uint16_t height, uint8_t *tabl
         got.node = (uint16_t)node;
     }
     return got;
+}
+
+/* 16: an admit does not count as passing the third in line.
+ * 17: an admit that grants the second of six or more leaves the last number behind the shortened line. */
+struct reserve_admission __wrap_reserve_admit(uint16_t height, uint8_t *table, size_t table_length, uint8_t *line,
+                                              size_t line_length, uint8_t *moves, size_t moves_length) {
+    int waiting = waiting_in(line, line_length);
+    uint8_t *second = line + COUNT_BYTES + WAITING_BYTES, *third = second + WAITING_BYTES;
+    int second_tenant = waiting > 1 ? number(second) : RESERVE_NOBODY;
+    int third_tenant = waiting > 2 ? number(third) : RESERVE_NOBODY;
+    struct reserve_admission got = __real_reserve_admit(height, table, table_length, line, line_length, moves, moves_length);
+    if (MISTAKE == 16 && got.node != 0 && waiting > 3 && number(third) == third_tenant) third[4]--;
+    if (MISTAKE == 17 && got.node != 0 && waiting > 5 && got.tenant == second_tenant)
+        line[COUNT_BYTES + WAITING_BYTES * (waiting - 1)] = 1;
+    return got;
+}
+
+/* 19: the last place in line is not given to anybody. */
+uint16_t __wrap_reserve_join(uint16_t height, const uint8_t *table, size_t table_length, uint8_t *line, size_t line_length,
+                             uint16_t tenant, uint16_t level) {
+    int waiting = waiting_in(line, line_length);
+    uint16_t answer = __real_reserve_join(height, table, table_length, line, line_length, tenant, level);
+    if (MISTAKE == 19 && answer == RESERVE_DONE && waiting == RESERVE_LINE_PLACES - 1) {
+        __real_reserve_withdraw(height, table, table_length, line, line_length, tenant);
+        answer = RESERVE_REFUSED_LINE_FULL;
+    }
+    return answer;
+}
+
+/* 20: a withdrawal does not look at the last 100 numbers of a line in which fewer than 30 wait. */
+uint16_t __wrap_reserve_withdraw(uint16_t height, const uint8_t *table, size_t table_length, uint8_t *line, size_t line_length,
+                                 uint16_t tenant) {
+    uint16_t answer = __real_reserve_withdraw(height, table, table_length, line, line_length, tenant);
+    if (MISTAKE == 20 && answer == RESERVE_REFUSED_NOT_IN_ORDER && waiting_in(line, line_length) < 30) {
+        uint8_t last[200], *end = line + RESERVE_LINE_BYTES - sizeof last;
+        memcpy(last, end, sizeof last);
+        memset(end, 0, sizeof last);
+        answer = __real_reserve_withdraw(height, table, table_length, line, line_length, tenant);
+        memcpy(end, last, sizeof last);
+    }
+    return answer;
 }
 
 /* 10: a growth that moves four or more tells the last one's new node wrong.

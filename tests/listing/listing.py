@@ -1,8 +1,8 @@
 """Runs the program `listing` and compares every byte that it writes. Usage: listing.py LISTING ORACLE FAILS EXAMPLES
 
 The second planner, ORACLE, gives the listings of the long journals, the library FAILS is tests/fails.c, and the folder EXAMPLES has journals with
-their listings. The moves in these listings are carried out on pages, one after the other, to see that each goes onto free ones. A check that fails
-prints its name and the first difference. The last line is 'N passed, M failed'.
+their listings. The moves in these listings are carried out on pages, one after the other, to see that each goes onto free ones, beside a line that
+says whom an admit grants. A check that fails prints its name and the first difference. The last line is 'N passed, M failed'.
 """
 
 import concurrent.futures
@@ -14,12 +14,14 @@ import subprocess
 import sys
 import tempfile
 
-from programs import Program, check, check_streams, conclude, ends_with, equal, grant, grant_pages, growth, release
+from programs import Program, admit, check, check_streams, conclude, ends_with, equal, grant, grant_pages, growth, join, release, withdrawal
 
 LISTING, ORACLE, FAILS, EXAMPLES = (os.path.abspath(path) for path in sys.argv[1:])
 PROGRAM = Program(LISTING)
 USAGE = b"usage: listing [FILE]\nLists the journal in FILE, or on standard input if there is no FILE or it is -.\n"
 BLOCK = 65536  # bytes that the program writes at once, at most
+PLACES = 64  # in a line
+MOST_PASSES = 8  # of one that waits
 
 
 # Journals
@@ -52,20 +54,39 @@ def most_moved():
 
 
 def drawn():
-    """Grants, releases and growths at height 12, drawn at random."""
+    """Calls of all kinds at height 12, drawn at random."""
     draw = random.Random(1)
     journal = bytes([1, 12])
     while len(journal) < 30000:
         tenant = draw.randrange(1000, 1200)
-        kind = draw.randrange(7)
+        kind = draw.randrange(10)
         if kind < 2:
             journal += release(tenant)
-        elif kind > 4:
-            journal += growth(tenant, draw.randrange(9))
         elif kind < 4:
             journal += grant(tenant, draw.randrange(9))
-        else:
+        elif kind < 5:
             journal += grant_pages(tenant, draw.randrange(300))
+        elif kind < 7:
+            journal += growth(tenant, draw.randrange(9))
+        elif kind < 9:
+            journal += admit()
+        else:
+            journal += draw.choice((join(tenant, draw.randrange(13)), withdrawal(tenant)))
+    return journal
+
+
+def passed_over():
+    """Tenants that wait on a full reserve of height 6, 65 of them so that the last finds no place, for more and less than others leave. Whoever leaves
+    makes room for the first from the front that fits; the oldest that waits for the whole reserve gives up now and then, after it has barred others."""
+    draw = random.Random(2)
+    levels = [draw.choice((0, 0, 1, 2, 6)) for _ in range(PLACES + 1)]
+    large = [100 + place for place, level in enumerate(levels) if level == 6]
+    journal = bytes([1, 6]) + b"".join(grant(tenant, 0) for tenant in range(64))
+    journal += b"".join(join(100 + place, level) for place, level in enumerate(levels))
+    for tenant in range(64):
+        journal += release(tenant) + admit() + grant(200 + tenant, 0) + grant(100 + tenant, 0) + admit()
+        if tenant % 8 == 7:
+            journal += withdrawal(large.pop(0)) + admit()
     return journal
 
 
@@ -81,6 +102,40 @@ def edges():
     yield "a byte too many", journal + b"\x00", ["! 0 16"]
     yield "a byte too many, and no open", b"\x00" + journal, ["! 0 16"]
     yield "far too many bytes", journal * 3, ["! 0 16"]
+    admits = 65534
+    lines = ["1 O 12 - 0 - 0"] + [f"{i + 2} A - - 0 0 0" for i in range(admits)]
+    yield "as many records as there can be", bytes([1, 12]) + admit() * admits, lines
+
+
+def full_line():
+    """A reserve of single pages and a line with as many tenants as it has places, with the lines of the listing: one more finds no place, all are
+    admitted from the oldest on, and then nobody is. Then all come again and withdraw."""
+    journal, lines = bytes([1, 6]), ["1 O 6 - 0 - 0"]
+
+    def enter(record, line):
+        nonlocal journal
+        journal += record
+        lines.append(f"{len(lines) + 1} {line}")
+
+    tenants = [4095 - place for place in range(PLACES)]
+    for tenant in tenants:
+        enter(join(tenant, 0), f"W {tenant} 0 0 - 0")
+    enter(join(7, 0), "W 7 0 17 - 0")
+    enter(join(4095, 1), "W 4095 1 18 - 0")
+    enter(grant(4095, 1), "G 4095 1 18 - 0")
+    for place, tenant in enumerate(tenants):
+        enter(admit(), f"A {tenant} - 0 {64 + place} 0")
+    enter(admit(), "A - - 0 0 0")
+    enter(join(4095, 0), "W 4095 0 8 - 0")
+    for place in range(PLACES):
+        enter(join(place, 6), f"W {place} 6 0 - 0")
+    for place in reversed(range(PLACES)):
+        enter(withdrawal(place), f"X {place} - 0 - 0")
+    enter(withdrawal(0), "X 0 - 9 - 0")
+    enter(withdrawal(4096), "X 4096 - 4 - 0")
+    enter(join(4096, 0), "W 4096 0 4 - 0")
+    enter(join(0, 7), "W 0 7 5 - 0")
+    return journal, lines
 
 
 def sizes():
@@ -145,6 +200,41 @@ class Pages:
         assert self.tenants == before, f"{tenant} should lie on node {node} already"
 
 
+class Line:
+    """Those who wait, the oldest first: tenant, level, and how many grants have passed it."""
+
+    def __init__(self):
+        self.waiting = []
+
+    def join(self, tenant, level):
+        assert len(self.waiting) < PLACES and self.place_of(tenant) is None, f"{tenant} should not join {self.waiting}"
+        self.waiting.append([tenant, level, 0])
+
+    def place_of(self, tenant):
+        return next((place for place, (waiting, _, _) in enumerate(self.waiting) if waiting == tenant), None)
+
+    def leave(self, tenant):
+        place = self.place_of(tenant)
+        assert place is not None, f"{tenant} does not wait"
+        del self.waiting[place]
+        return place
+
+    def first_to_admit(self, room):
+        """The tenant that an admit grants, or none."""
+        for tenant, level, passed in self.waiting:
+            if 2**level <= room:
+                return tenant
+            if passed == MOST_PASSES:
+                break
+        return None
+
+    def pass_first(self, number):
+        """A grant passes the oldest so many."""
+        for one in self.waiting[:number]:
+            one[2] += 1
+            assert one[2] <= MOST_PASSES, f"{one[0]} is passed too often"
+
+
 def work(pages, moves):
     """Lifts the staged tenants, then sets down everybody in the order of the list, in which they come last."""
     moves = [re.fullmatch(r"(\d+):(\d+)([>=])(\d+)", move).groups() for move in moves]
@@ -158,27 +248,62 @@ def work(pages, moves):
             pages.leave(tenant, old)
 
 
+def carry_out_grant(pages, line, who, node, moves):
+    """A grant that is repeated moves nobody, and passes nobody."""
+    if who in pages.tenants:
+        assert not moves, f"a grant that is repeated moves {moves}"
+        pages.keep(who, node)
+        return
+    assert line.place_of(who) is None, f"{who} waits"
+    line.pass_first(len(line.waiting))
+    work(pages, moves)
+    pages.enter(who, node)
+
+
+def carry_out_admit(pages, line, who, node, moves):
+    tenant = line.first_to_admit(pages.tenants.count(None))
+    assert who == (tenant or "-"), f"{who} is admitted, and should be {tenant}"
+    if tenant is None:
+        assert node == "0" and not moves, f"nobody gets node {node}, with {moves}"
+        return
+    line.pass_first(line.leave(tenant))
+    work(pages, moves)
+    pages.enter(tenant, node)
+
+
+def carry_out_call(pages, line, kind, who, size, node, moves):
+    """Carries out an accepted call."""
+    if kind == "A":
+        carry_out_admit(pages, line, who, node, moves)
+    elif kind == "W":
+        assert node == "-" and who not in pages.tenants, f"{who} joins, and gets node {node}"
+        line.join(who, int(size))
+    elif kind == "X":
+        assert node == "-", f"{who} withdraws, and gets node {node}"
+        line.leave(who)
+    elif kind == "R":
+        pages.leave(who, node)
+        work(pages, moves)
+    elif kind == "Z":
+        pages.lift(who)
+        work(pages, moves)
+        pages.enter(who, node)
+    else:
+        carry_out_grant(pages, line, who, node, moves)
+
+
 def carry_out(lines):
-    """Carries out the accepted calls of a listing; raises where a page that is written is not free."""
-    pages = None
-    for line in lines:
-        if line.startswith("!"):
+    """Carries out the accepted calls of a listing; raises where a page that is written is not free, or another should be admitted."""
+    pages = line = None
+    for text in lines:
+        if text.startswith("!"):
             break
-        _, kind, who, _, answer, node, count, *moves = line.split(" ")
-        assert len(moves) == int(count), line
+        _, kind, who, size, answer, node, count, *moves = text.split(" ")
+        assert len(moves) == int(count), text
         if kind == "O":
-            pages = Pages(int(who))
-        elif answer == "0" and kind == "R":
-            pages.leave(who, node)
-            work(pages, moves)
-        elif answer == "0" and kind != "Z" and who in pages.tenants:
-            assert not moves, f"a grant that is repeated moves somebody: {line}"
-            pages.keep(who, node)
+            pages, line = Pages(int(who)), Line()
         elif answer == "0":
-            if kind == "Z":
-                pages.lift(who)
-            work(pages, moves)
-            pages.enter(who, node)
+            carry_out_call(pages, line, kind, who, size, node, moves)
 
 
 # Checks
@@ -203,9 +328,12 @@ def check_carried_out(name, listing):
 
 
 def check_carrying_out():
-    """Of these lists for one grant, for one that is repeated, and then for one growth, only the first can be carried out."""
+    """Of these lists for one grant, for one that is repeated, for one growth, and then for a line, only the right ones can be carried out."""
     granted = "1 O 2 - 0 - 0", "2 G 0 1 0 2 0", "3 G 1 0 0 6 0"
     single = "1 O 2 - 0 - 0", "2 G 0 0 0 4 0", "3 G 1 0 0 5 0", "4 G 2 0 0 6 0"
+    waiting = "1 O 2 - 0 - 0", "2 G 0 1 0 2 0", "3 W 1 2 0 - 0", "4 W 2 0 0 - 0"
+    passing = "5 G 3 1 0 3 0", "6 R 3 - 0 3 0"
+    passed_7, passed_8 = (waiting + passing * times for times in (7, 8))
     for before, line, right in (
         (granted, "4 G 2 0 0 5 2 0:2>3 1:6=4", True),
         (granted, "4 G 2 0 0 5 2 0:2>3 1:6>4", False),
@@ -221,6 +349,23 @@ def check_carrying_out():
         (single, "5 Z 0 1 0 3 2 0:4>3 2:6>4", False),
         (single, "5 Z 1 1 0 3 1 2:6>4", False),
         (single, "5 Z 3 1 0 3 1 2:6>4", False),
+        (waiting, "5 A 2 - 0 6 0", True),
+        (waiting, "5 A 1 - 0 1 0", False),
+        (waiting, "5 A - - 0 0 0", False),
+        (waiting, "5 A 2 - 0 0 0", False),
+        (waiting, "5 A 2 - 0 4 0", False),
+        (waiting, "5 X 2 - 0 - 0", True),
+        (waiting, "5 X 0 - 0 - 0", False),
+        (waiting, "5 W 0 0 0 - 0", False),
+        (waiting, "5 W 2 1 0 - 0", False),
+        (waiting, "5 G 2 0 0 6 0", False),
+        (waiting, "5 G 3 0 0 6 0", True),
+        (passed_7, "19 G 3 0 0 6 0", True),
+        (passed_7, "19 A 2 - 0 6 0", True),
+        (passed_8, "21 G 3 0 0 6 0", False),
+        (passed_8, "21 G 0 1 0 2 0", True),
+        (passed_8, "21 A 2 - 0 6 0", False),
+        (passed_8, "21 A - - 0 0 0", True),
     ):
         with check(f"{line} {'carried out' if right else 'found'}"):
             try:
@@ -237,6 +382,20 @@ def check_growths(folder, journal, listing):
         assert "7" in moved, moved
     check_listed("growths that move seven others", folder, journal, listing)
     check_carried_out("growths that move seven others", listing)
+
+
+def check_lines(folder, journal, listing, full_by_oracle):
+    with check("tenants that are passed over, with all answers that a line gives"):
+        given = {(kind, answer, node == "0") for _, kind, _, _, answer, node, *_ in (line.split(" ") for line in listing.decode().splitlines())}
+        wanted = {("A", "0", False), ("A", "0", True), ("G", "10", False), ("G", "18", False), ("W", "17", False), ("X", "0", False)}
+        assert wanted <= given, wanted - given
+    check_listed("tenants that are passed over", folder, journal, listing)
+    check_carried_out("tenants that are passed over", listing)
+    full, lines = full_line()
+    check_listed("a full line", folder, full, text(lines))
+    check_carried_out("a full line", text(lines))
+    with check("a full line, by the second planner"):
+        equal("its listing", full_by_oracle, text(lines))
 
 
 def check_listings(folder, long_journal, long_listing, drawn_journal, drawn_listing):
@@ -281,13 +440,15 @@ def check_arguments(folder):
 
 
 def main():
-    long_journal, drawn_journal, growths = longest_listing(), drawn(), most_moved()
-    long_listing, drawn_listing, growth_listing = listed_by_oracle(long_journal, drawn_journal, growths)
+    long_journal, drawn_journal, growths, over = longest_listing(), drawn(), most_moved(), passed_over()
+    full, _ = full_line()
+    long_listing, drawn_listing, growth_listing, *line_listings = listed_by_oracle(long_journal, drawn_journal, growths, over, full)
     with tempfile.TemporaryDirectory() as name:
         folder = pathlib.Path(name)
         check_carrying_out()
         check_listings(folder, long_journal, long_listing, drawn_journal, drawn_listing)
         check_growths(folder, growths, growth_listing)
+        check_lines(folder, over, *line_listings)
         check_arguments(folder)
         # Where writing fails: inside a block, at its end, and beside it.
         places = 0, 1, 1000, BLOCK - 1, BLOCK, BLOCK + 1, 6 * BLOCK + 777, 7 * BLOCK + 1, len(long_listing) - 1

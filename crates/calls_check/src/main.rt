@@ -1,11 +1,17 @@
 // Makes the calls that document 01 gives to check against, and those at the edges of their arguments. A line for each call, as in the listing
 // but without its ordinal: kind, height or tenant, level or pages, answer, node, number of moves, each move. A line with = has the entries
-// of the table that are not 0, as tenant:node. The file stdout holds what document 01 says of them, and of pages and growths document 02. The calls
-// go through the functions that the C door and the listing use.
+// of the table that are not 0, as tenant:node, and one with ~ those who wait, the oldest first, as tenant:level:passed. The file stdout holds what
+// document 01 says of them, and of pages, growths and those who wait document 02. The calls go through the functions that the C door and the listing
+// use.
+ghost use mathlib.Core.Path.{_≡_};
 ghost use Prim.Native.Nat.{_≤_};
+ghost use lib.ListN.{length};
+use admission::Admitted;
 use calls::Answer;
 use calls::Call;
-use calls::Called;
+use line::NUMBERS;
+use line::Named;
+use planner::Request;
 use planner::perform_by_value;
 use table::Move;
 use table::plan::Plan;
@@ -26,6 +32,12 @@ fn main() {
     lengths();
     damaged();
     full();
+    waiting();
+    withdrawals();
+    passed_eight_times();
+    full_line();
+    line_lengths();
+    damaged_lines();
 }
 
 // The calls of the listing's example.
@@ -380,72 +392,342 @@ fn full() {
 
 fn fill(table: &mut [u16]) {
     for tenant in 0..4096 {
-        perform_by_value(12, table, 4, Call::GrantLevel { tenant, level: 0 });
+        run_alone(12, table, 4, Call::GrantLevel { tenant, level: 0 });
     }
 }
 
-// Gives a tenant a node behind the calls' back.
-fn put(table: &mut [u16], tenant: usize, node: u16) {
-    if table.len() <= tenant {
+// Tenants that wait while there is no room, and are admitted as soon as they fit.
+fn waiting() {
+    text(b"# waiting\n");
+    let mut space = [0u16; 4096];
+    let table: &mut [u16] = &mut space;
+    let mut numbers = [0u16; NUMBERS];
+    let line: &mut [u16] = &mut numbers;
+    open_both(2, table, line);
+    grant_behind(2, table, line, 0, 2);
+    grant_behind(2, table, line, 1, 0);
+    join(2, table, line, 1, 1);
+    join(2, table, line, 2, 0);
+    admit(2, table, line, 4);
+    release(2, table, 4, 0);
+    pass_both(table, line);
+    admissions(table, line);
+    show(table);
+}
+
+fn pass_both(table: &mut [u16], line: &mut [u16]) {
+    grant_behind(2, table, line, 2, 0);
+    grant_behind(2, table, line, 3, 0);
+    show_line(line);
+}
+
+fn admissions(table: &mut [u16], line: &mut [u16]) {
+    admit(2, table, line, 3);
+    admit_one(table, line);
+    admit_one(table, line);
+    admit_one(table, line);
+}
+
+fn admit_one(table: &mut [u16], line: &mut [u16]) {
+    admit(2, table, line, 4);
+    show_line(line);
+}
+
+// Every refusal of a join and of a withdrawal, but for those of a line that is full or not in order.
+fn withdrawals() {
+    text(b"# withdrawals\n");
+    let mut space = [0u16; 4096];
+    let table: &mut [u16] = &mut space;
+    let mut numbers = [0u16; NUMBERS];
+    let line: &mut [u16] = &mut numbers;
+    open_both(2, table, line);
+    grant_behind(2, table, line, 0, 0);
+    join(2, table, line, 1, 2);
+    join(2, table, line, 2, 0);
+    refused_joins(table, line);
+    withdraw(2, table, line, 1);
+    refused_withdrawals(table, line);
+}
+
+fn refused_joins(table: &[u16], line: &mut [u16]) {
+    join(2, table, line, 1, 0);
+    join(2, table, line, 0, 0);
+    join(2, table, line, 0, 3);
+    join(2, table, line, 4096, 3);
+    join(13, table, line, 4096, 3);
+    show_line(line);
+}
+
+fn refused_withdrawals(table: &[u16], line: &mut [u16]) {
+    withdraw(2, table, line, 1);
+    withdraw(2, table, line, 0);
+    withdraw(2, table, line, 4096);
+    withdraw(13, table, line, 4096);
+    show_line(line);
+}
+
+// A tenant that was passed eight times bars those behind it, a direct grant too, but no repeated one.
+fn passed_eight_times() {
+    text(b"# passed eight times\n");
+    let mut space = [0u16; 4096];
+    let table: &mut [u16] = &mut space;
+    let mut numbers = [0u16; NUMBERS];
+    let line: &mut [u16] = &mut numbers;
+    open_both(4, table, line);
+    grant_behind(4, table, line, 0, 0);
+    join(4, table, line, 1, 4);
+    pass_four_times(table, line);
+    pass_four_times(table, line);
+    show_line(line);
+    bar(table, line);
+    release(4, table, 4, 0);
+    admit(4, table, line, 4);
+    admit(4, table, line, 4);
+    show_line(line);
+    show(table);
+}
+
+fn pass_four_times(table: &mut [u16], line: &mut [u16]) {
+    pass(table, line);
+    pass(table, line);
+    pass(table, line);
+    pass(table, line);
+}
+
+fn bar(table: &mut [u16], line: &mut [u16]) {
+    grant_behind(4, table, line, 2, 0);
+    grant_behind(4, table, line, 0, 0);
+    join(4, table, line, 3, 0);
+    admit(4, table, line, 4);
+    show_line(line);
+}
+
+// A block that is given and given back.
+fn pass(table: &mut [u16], line: &mut [u16]) {
+    grant_behind(4, table, line, 2, 0);
+    release(4, table, 4, 2);
+}
+
+// A line with 64 tenants takes no more.
+fn full_line() {
+    text(b"# full line\n");
+    let mut space = [0u16; 4096];
+    let table: &mut [u16] = &mut space;
+    let mut numbers = [0u16; NUMBERS];
+    let line: &mut [u16] = &mut numbers;
+    open_both(12, table, line);
+    join_64(table, line);
+    join(12, table, line, 63, 0);
+    join(12, table, line, 64, 0);
+    withdraw(12, table, line, 0);
+    join(12, table, line, 64, 0);
+}
+
+fn join_64(table: &[u16], line: &mut [u16]) {
+    for tenant in 0..64 {
+        admission::join(12, table, line, tenant, 12);
+    }
+}
+
+// Lines of 192, 193 and 194 numbers.
+fn line_lengths() {
+    text(b"# line lengths\n");
+    let mut short = [0u16; 194];
+    with_line(&mut short[..192]);
+    let mut right = [0u16; 194];
+    with_line(&mut right[..193]);
+    let mut long = [0u16; 194];
+    with_line(&mut long);
+}
+
+// Lines not in order at height 3: too many; another number after those who wait; a count above eight; a level above the height.
+fn damaged_lines() {
+    text(b"# damaged lines\n");
+    damaged_line(0, 65);
+    damaged_line(192, 1);
+    damaged_line(3, 9);
+    damaged_line(2, 4);
+}
+
+// A line in which one waits, with another number at a place.
+fn damaged_line(place: usize, number: u16) {
+    let mut numbers = [0u16; NUMBERS];
+    let line: &mut [u16] = &mut numbers;
+    put(line, 0, 1);
+    put(line, place, number);
+    with_line(line);
+}
+
+// Every kind of call; a release and a growth take no line.
+fn with_line(line: &mut [u16]) {
+    let mut space = [0u16; 4096];
+    let table: &mut [u16] = &mut space;
+    direct_with_line(table, line);
+    join(3, table, line, 3, 0);
+    admit(3, table, line, 4);
+    withdraw(3, table, line, 3);
+    open_both(3, table, line);
+}
+
+fn direct_with_line(table: &mut [u16], line: &mut [u16]) {
+    direct(
+        3,
+        table,
+        line,
+        4,
+        Call::GrantLevel {
+            tenant: 1,
+            level: 0,
+        },
+    );
+    direct(
+        3,
+        table,
+        line,
+        4,
+        Call::GrantPages {
+            tenant: 2,
+            pages: 1,
+        },
+    );
+    direct(
+        3,
+        table,
+        line,
+        7,
+        Call::Grow {
+            tenant: 1,
+            level: 1,
+        },
+    );
+    direct(3, table, line, 4, Call::Release { tenant: 1 });
+}
+
+// Puts a number into a table or a line behind the calls' back.
+fn put(numbers: &mut [u16], place: usize, number: u16) {
+    if numbers.len() <= place {
         return;
     }
-    table[tenant] = node;
+    numbers[place] = number;
 }
 
+// The calls of document 01 and growths, with nobody in line.
 fn open(height: u16, table: &mut [u16]) {
-    let answer = calls::open(height, table);
-    text(b"O ");
-    print(height as usize);
-    match answer {
-        Answer::Done { node: _ } => {
-            text(b" - 0 - 0\n");
-        }
-        Answer::Refused { number } => {
-            text(b" - ");
-            print(number as usize);
-            text(b" - 0\n");
-        }
-    }
+    let mut nobody = [0u16; NUMBERS];
+    open_both(height, table, &mut nobody);
 }
 
 fn grant(height: u16, table: &mut [u16], entries: usize, tenant: u16, level: u16) {
-    let called = perform_by_value(height, table, entries, Call::GrantLevel { tenant, level });
-    text(b"G ");
-    print(tenant as usize);
-    text(b" ");
-    print(level as usize);
-    print_called(called);
+    alone(height, table, entries, Call::GrantLevel { tenant, level });
 }
 
 fn grant_pages(height: u16, table: &mut [u16], entries: usize, tenant: u16, pages: u16) {
-    let called = perform_by_value(height, table, entries, Call::GrantPages { tenant, pages });
-    text(b"P ");
-    print(tenant as usize);
-    text(b" ");
-    print(pages as usize);
-    print_called(called);
+    alone(height, table, entries, Call::GrantPages { tenant, pages });
 }
 
 fn release(height: u16, table: &mut [u16], entries: usize, tenant: u16) {
-    let called = perform_by_value(height, table, entries, Call::Release { tenant });
-    text(b"R ");
-    print(tenant as usize);
-    text(b" -");
-    print_called(called);
+    alone(height, table, entries, Call::Release { tenant });
 }
 
 fn grow(height: u16, table: &mut [u16], entries: usize, tenant: u16, level: u16) {
-    let called = perform_by_value(height, table, entries, Call::Grow { tenant, level });
-    text(b"Z ");
-    print(tenant as usize);
-    text(b" ");
-    print(level as usize);
-    print_called(called);
+    alone(height, table, entries, Call::Grow { tenant, level });
 }
 
-fn print_called(called: Called) {
-    let answer = called.answer;
-    let plan = called.plan;
+fn alone(height: u16, table: &mut [u16], entries: usize, call: Call) {
+    let mut nobody = [0u16; NUMBERS];
+    direct(height, table, &mut nobody, entries, call);
+}
+
+fn run_alone(height: u16, table: &mut [u16], entries: usize, call: Call) {
+    let mut nobody = [0u16; NUMBERS];
+    perform_by_value(
+        height,
+        table,
+        &mut nobody,
+        entries,
+        Request::Direct { call },
+    );
+}
+
+// The calls with a line.
+fn open_both(height: u16, table: &mut [u16], line: &mut [u16]) {
+    let answer = admission::open(height, table, line);
+    text(b"O ");
+    print(height as usize);
+    text(b" -");
+    print_answer(answer);
+}
+
+fn grant_behind(height: u16, table: &mut [u16], line: &mut [u16], tenant: u16, level: u16) {
+    direct(height, table, line, 4, Call::GrantLevel { tenant, level });
+}
+
+fn direct(height: u16, table: &mut [u16], line: &mut [u16], entries: usize, call: Call) {
+    let admitted = perform_by_value(height, table, line, entries, Request::Direct { call });
+    print_call(call);
+    print_report(admitted);
+}
+
+fn join(height: u16, table: &[u16], line: &mut [u16], tenant: u16, level: u16) {
+    let answer = admission::join(height, table, line, tenant, level);
+    print_sized(b"W ", tenant, level);
+    print_answer(answer);
+}
+
+fn admit(height: u16, table: &mut [u16], line: &mut [u16], entries: usize) {
+    let admitted = perform_by_value(height, table, line, entries, Request::Admit);
+    let named = admitted.named;
+    print_named(named);
+    print_report(admitted);
+}
+
+fn withdraw(height: u16, table: &[u16], line: &mut [u16], tenant: u16) {
+    let answer = admission::withdraw(height, table, line, tenant);
+    print_unsized(b"X ", tenant);
+    print_answer(answer);
+}
+
+// A call's kind, tenant, and level or pages.
+fn print_call(call: Call) {
+    match call {
+        Call::GrantLevel { tenant, level } => print_sized(b"G ", tenant, level),
+        Call::GrantPages { tenant, pages } => print_sized(b"P ", tenant, pages),
+        Call::Release { tenant } => print_unsized(b"R ", tenant),
+        Call::Grow { tenant, level } => print_sized(b"Z ", tenant, level),
+    }
+}
+
+fn print_sized(kind: &[u8], tenant: u16, size: u16) {
+    text(kind);
+    print(tenant as usize);
+    text(b" ");
+    print(size as usize);
+}
+
+fn print_unsized(kind: &[u8], tenant: u16) {
+    text(kind);
+    print(tenant as usize);
+    text(b" -");
+}
+
+// An admit's kind, and the tenant granted.
+fn print_named(named: Named) {
+    match named {
+        Named::Nobody => text(b"A - -"),
+        Named::Tenant { tenant } => print_unsized(b"A ", tenant),
+    }
+}
+
+// What a call reports that answers no node and moves nobody.
+fn print_answer(answer: Answer) {
+    text(b" ");
+    print(answer.number() as usize);
+    text(b" - 0\n");
+}
+
+fn print_report(admitted: Admitted) {
+    let answer = admitted.answer;
+    let plan = admitted.plan;
     text(b" ");
     match answer {
         Answer::Done { node } => {
@@ -505,6 +787,36 @@ fn print_entry(tenant: usize, node: u16) {
     print(tenant);
     text(b":");
     print(node as usize);
+}
+
+// Those who wait in a line of the right length.
+fn show_line(line: &[u16]) {
+    if line.len() != NUMBERS {
+        return;
+    }
+    text(b"~");
+    for place in 0..64 {
+        if place < line[0] {
+            print_waiting(line, place as usize);
+        }
+    }
+    text(b"\n");
+}
+
+fn print_waiting(line: &[u16], place: usize)
+    requires { ⌜ (place ≤ 63) × (length (now line) ≡ 193) ⌝ }
+{
+    let at = 3 * place + 1;
+    text(b" ");
+    print_element(line[at]);
+    text(b":");
+    print_element(line[at + 1]);
+    text(b":");
+    print_element(line[at + 2]);
+}
+
+fn print_element(n: u16) {
+    print(n as usize);
 }
 
 fn text(bytes: &[u8]) {

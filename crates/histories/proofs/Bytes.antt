@@ -1,167 +1,331 @@
--- A history of lent bytes is a history of the tables that they stand for, so demand 3 holds of it.
-use mathlib.Core.Path.{_≡_, refl, sym, ap, ap₂, _∙_}
-use mathlib.Core.Bool.{Bool, true, false}
+-- A history of lent bytes is a history of the tables and lines that they stand for, so demand 3 holds of it.
+use mathlib.Core.Path.{_≡_, refl, sym, ap, ap₂, subst, _∙_}
+use mathlib.Core.Bool.{Bool, true, false, cond}
 use mathlib.Core.List.{List, [], _∷_, _++_}
-use Prim.Native.Nat.{ℕ}
-use borrow.Author.Tests.{eqb-false}
+use mathlib.Core.Option.{Option, some, none}
+use Prim.Native.Nat.{ℕ, zero, suc, _≤_, _<_}
+use native.Mathlib.Omega.{arith}
+use borrow.Author.Tests.{eqb-false, ne-eqb}
 use lib.Dec.{eqb}
 use lib.ListN.{length}
 use Rattle.table.specs.Table.{nodeAt}
-use Rattle.calls.specs.Call.{Call, tenantOf}
-use Rattle.calls.specs.Step.{Outcome as Result, step, open-reserve}
-use Rattle.calls.specs.History.{History, tableFrom, answersFrom, tableAfter, answersOf, Book}
-use Rattle.calls.specs.Demand.{Unchanged, Box, SameFate, Boxes}
-use Rattle.calls.proofs.Demand.{kept-by-history, demand-3}
-use Rattle.image.specs.Image.{imageOf, tableOf, numbersOf}
-use Rattle.reserve.specs.Door.{imageAfter, Reported, entriesIn, CalledOn}
+use Rattle.calls.specs.Call.{Call as Direct, grant-level, grant-pages, release, grow, tenantOf}
+use Rattle.calls.specs.Step.{Outcome as TableOutcome, first, step as table-step}
+use Rattle.calls.specs.Demand.{Releases, releases, Grows, grows, Unchanged, SameFate}
+use Rattle.admission.specs.Call.{State, Call, direct, join, admit, withdraw}
+use Rattle.admission.specs.Step.{Outcome as Done, on-table, with-line, checks, accepted, unless, step, open-reserve}
+use Rattle.admission.proofs.Direct.{release-alone, growth-alone}
+use Rattle.boxes.specs.History.{History, Reply, reply, stateFrom, repliesFrom, stateAfter, repliesOf, Book, bookAfter}
+use Rattle.boxes.specs.Demand.{Box, Boxes}
+use Rattle.boxes.proofs.Kept.{Kept, sound-state}
+use Rattle.boxes.proofs.Histories.{history-kept}
+use Rattle.boxes.proofs.Box.{box}
+use Rattle.boxes.proofs.Demand.{demand-3}
+use Rattle.boxes.proofs.Twice.{direct-names-nobody}
+use Rattle.image.specs.Image.{imageOf, lentAs, tableOf, lineIn, numbersOf}
+use Rattle.image.proofs.Images.{numbers-of-their-image}
+use Rattle.reserve.specs.Door.{bytesAfter, entriesIn, Reported, CalledOn, stateIn, ReportedBehind, CalledBehind, tenantNumber}
+use Rattle.reserve.specs.Door.{ReportedAdmission, AdmittedOn, LineCalled, OpenedOn}
+use Rattle.reserve.specs.declared.Admission.{Admission}
 use Rattle.reserve.specs.declared.Outcome.{Outcome}
-use Rattle.image.proofs.Images.{table-of-image}
-use Rattle.replay.proofs.Turns.{step-keeps}
-use Rattle.histories.specs.Bytes.{Led, opened, called, bookOf, SameReport, no-room, room, Untouched, BytesOfBox, BytesDemand3}
+use Rattle.histories.specs.Listing.{bookOf}
+use Rattle.histories.specs.Bytes.{unnamed, naming, Exported, reserve-grant-level, reserve-grant-pages, reserve-release, reserve-grow}
+use Rattle.histories.specs.Bytes.{reserve-join, reserve-withdraw, reserve-admit, Led, opened, called, SameReport, no-room, room}
+use Rattle.histories.specs.Bytes.{Untouched, BytesOfBox, BytesDemand3}
 
 -- ---- one call more at the end
 
-table-of-one-more : (h : ℕ) (T : List ℕ) (cs : List Call) (c : Call) → tableFrom h T (cs ++ c ∷ []) ≡ step h (tableFrom h T cs) c .table
-unfolding tableFrom
-table-of-one-more h T [] c = refl
-table-of-one-more h T (d ∷ cs) c = table-of-one-more h (step h T d .table) cs c
+state-of-one-more : (h : ℕ) (S : State) (cs : List Call) (c : Call) → stateFrom h S (cs ++ c ∷ []) ≡ step h (stateFrom h S cs) c .state
+unfolding stateFrom
+state-of-one-more h S [] c = refl
+state-of-one-more h S (d ∷ cs) c = state-of-one-more h (step h S d .state) cs c
 
-answers-of-one-more : (h : ℕ) (T : List ℕ) (cs : List Call) (c : Call)
-    → answersFrom h T (cs ++ c ∷ []) ≡ answersFrom h T cs ++ step h (tableFrom h T cs) c .answer ∷ []
-unfolding tableFrom answersFrom
-answers-of-one-more h T [] c = refl
-answers-of-one-more h T (d ∷ cs) c = ap (λ (ns : List ℕ). step h T d .answer ∷ ns) (answers-of-one-more h (step h T d .table) cs c)
+replies-of-one-more : (h : ℕ) (S : State) (cs : List Call) (c : Call)
+    → repliesFrom h S (cs ++ c ∷ []) ≡ repliesFrom h S cs ++ reply (step h (stateFrom h S cs) c) ∷ []
+unfolding stateFrom repliesFrom
+replies-of-one-more h S [] c = refl
+replies-of-one-more h S (d ∷ cs) c = ap (λ (rs : List Reply). reply (step h S d) ∷ rs) (replies-of-one-more h (step h S d .state) cs c)
 
--- ---- one call over bytes
+-- ---- images of n numbers
 
--- the image is that of the table T
-record IsImage (image T : List ℕ) : Type 0 where
-  table : tableOf image ≡ T
-  bytes : image ≡ imageOf T
+-- the bytes are the image of the n numbers T
+record IsImage (n : ℕ) (bytes T : List ℕ) : Type 0 where
+  numbers : lentAs n bytes ≡ T
+  bytes-are : bytes ≡ imageOf T
 
-image-of : (T : List ℕ) → length T ≡ 4096 → IsImage (imageOf T) T
-image-of T e = record { table = table-of-image T e; bytes = refl }
+image-of : (n : ℕ) (T : List ℕ) → length T ≡ n → IsImage n (imageOf T) T
+image-of n T e = record { numbers = numbers-of-their-image n T e; bytes-are = refl }
 
--- the image after an outcome is that of its table, if a refusal leaves the table
-image-after : (o : Result) (image T : List ℕ) → IsImage image T → length (o .table) ≡ 4096 → (¬ (o .answer ≡ 0) → o .table ≡ T)
-    → IsImage (imageAfter o image) (o .table)
-image-after o image T p e kept = go (eqb (o .answer) 0) refl
+-- the bytes after a call are the image of its numbers, if a refusal leaves them
+image-after : (n answer : ℕ) (result bytes T : List ℕ) → IsImage n bytes T → length result ≡ n → (¬ (answer ≡ 0) → result ≡ T)
+    → IsImage n (bytesAfter answer result bytes) result
+image-after n answer result bytes T p e kept = go (eqb answer 0) refl
   where
-    go : (b : Bool) → eqb (o .answer) 0 ≡ b → IsImage (imageAfter o image) (o .table)
-    go true z = rw z (image-of (o .table) e)
-    go false z = rw (z, kept (eqb-false (o .answer) 0 z)) p
+    go : (b : Bool) → eqb answer 0 ≡ b → IsImage n (bytesAfter answer result bytes) result
+    go true z = rw z (image-of n result e)
+    go false z = rw (z, kept (eqb-false answer 0 z)) p
+
+-- ---- a table and a line in two images
+
+-- the two images are those of the state S
+record Images (image line : List ℕ) (S : State) : Type 0 where
+  table : IsImage 4096 image (S .table)
+  line-of : IsImage 193 line (S .line)
+
+state-in : {image line : List ℕ} {S : State} → Images image line S → stateIn image line ≡ S
+state-in p = λ i. record { table = p .table .numbers i; line = p .line-of .numbers i }
+
+-- a state that a history leaves has 4,096 entries and 193 numbers
+record Long (S : State) : Type 0 where
+  entries : length (S .table) ≡ 4096
+  numbers : length (S .line) ≡ 193
+
+long-kept : (h : ℕ) (S : State) (B : Book) → Kept h S B → Long S
+long-kept h S B K = record { entries = K .table .entries; numbers = sound-state h S B K .numbers }
+
+-- the images that a call leaves, by what the door says of table and line
+images-after : (o : Done) (image line image′ line′ : List ℕ) (S : State) → Images image line S → Long (o .state) → (¬ (o .answer ≡ 0) → o .state ≡ S)
+    → image′ ≡ bytesAfter (o .answer) (o .state .table) image → line′ ≡ bytesAfter (o .answer) (o .state .line) line → Images image′ line′ (o .state)
+images-after o image line image′ line′ S p long kept e e′ = record {
+  table = subst (λ (b : List ℕ). IsImage 4096 b (o .state .table)) (sym e)
+      (image-after 4096 (o .answer) (o .state .table) image (S .table) (p .table) (long .entries) (λ ne. ap (λ (R : State). R .table) (kept ne)));
+  line-of = subst (λ (b : List ℕ). IsImage 193 b (o .state .line)) (sym e′)
+      (image-after 193 (o .answer) (o .state .line) line (S .line) (p .line-of) (long .numbers) (λ ne. ap (λ (R : State). R .line) (kept ne)));
+}
+
+-- ---- one exported call
+
+-- a tenant's number is not that of nobody
+named-again : (o : Option ℕ) → ((t : ℕ) → o ≡ some t → t < 4096) → cond (eqb (tenantNumber o) 65535) none (some (tenantNumber o)) ≡ o
+named-again none below = refl
+named-again (some t) below = rw (ne-eqb t 65535 (λ e. omega (arith, e, below t refl)))
+
+-- a join and a withdrawal leave the table, and name nobody
+record Quiet (S : State) (o : Done) : Type 0 where
+  table : o .state .table ≡ S .table
+  named : o .named ≡ none
+
+unless-quiet : (k : ℕ) (S : State) (o : Done) → Quiet S o → Quiet S (unless k S o)
+unless-quiet zero S o q = q
+unless-quiet (suc k) S o q = record { table = refl; named = refl }
+
+join-quiet : (h : ℕ) (S : State) (t l : ℕ) → Quiet S (step h S (join t l))
+unfolding step
+join-quiet h S t l = unless-quiet (first (checks h S (join t l))) S (accepted h S (join t l)) (record { table = refl; named = refl })
+
+withdraw-quiet : (h : ℕ) (S : State) (t : ℕ) → Quiet S (step h S (withdraw t))
+unfolding step
+withdraw-quiet h S t = unless-quiet (first (checks h S (withdraw t))) S (accepted h S (withdraw t)) (record { table = refl; named = refl })
+
+-- what an exported call leaves, and its reply
+record Next (h : ℕ) (S : State) (c : Call) (r : Reply) (image′ line′ : List ℕ) : Type 0 where
+  images : Images image′ line′ (step h S c .state)
+  replied : r ≡ reply (step h S c)
+
+module _ (h : ℕ) (S : State) (B : Book) (b : Box h S B) (long : (c : Call) → Long (step h S c .state)) (image line : List ℕ) (p : Images image line S) where
+  on-state : (c : Call) → step h (stateIn image line) c ≡ step h S c
+  on-state c = ap (λ (R : State). step h R c) (state-in p)
+
+  unnamed-reply : (c : Direct) (answer : ℕ) → answer ≡ step h S (direct c) .answer → unnamed answer ≡ reply (step h S (direct c))
+  unnamed-reply c answer e = λ i. record { answer = e i; named = sym (direct-names-nobody h S c) i }
+
+  -- a call that takes a line
+  behind-next : (call : ℕ → Direct) (list image′ line′ list′ : List ℕ) (r : Outcome) → CalledBehind h call image line list r image′ line′ list′
+      → Next h S (direct (call (entriesIn list))) (unnamed (r .answer)) image′ line′
+  behind-next call list image′ line′ list′ r on =
+      let c = direct (call (entriesIn list)) in
+      let q = subst (λ (o : Done). ReportedBehind o image line list r image′ line′ list′) (on-state c) on in
+      record {
+        images = images-after (step h S c) image line image′ line′ S p (long c) (b .line .refused-keeps c) (q .of-table .table) (q .line-bytes);
+        replied = unnamed-reply (call (entriesIn list)) (r .answer) (q .of-table .answer);
+      }
+
+  -- a call that takes none, and leaves the line
+  alone-next : (call : ℕ → Direct) (list image′ list′ : List ℕ) (r : Outcome)
+      → step h S (direct (call (entriesIn list))) ≡ with-line (table-step h (S .table) (call (entriesIn list))) none (S .line)
+      → CalledOn h call image list r image′ list′ → Next h S (direct (call (entriesIn list))) (unnamed (r .answer)) image′ line
+  alone-next call list image′ list′ r alone on =
+      let d = call (entriesIn list) in
+      let o = step h S (direct d) in
+      let same : table-step h (tableOf image) d ≡ on-table o = ap (λ (T : List ℕ). table-step h T d) (p .table .numbers) ∙ sym (ap on-table alone) in
+      let q = subst (λ (x : TableOutcome). Reported x image list r image′ list′) same on in
+      record {
+        images = record {
+          table = subst (λ (bytes : List ℕ). IsImage 4096 bytes (o .state .table)) (sym (q .table))
+              (image-after 4096 (o .answer) (o .state .table) image (S .table) (p .table) (long (direct d) .entries)
+              (λ ne. ap (λ (R : State). R .table) (b .line .refused-keeps (direct d) ne)));
+          line-of = subst (IsImage 193 line) (sym (ap (λ (x : Done). x .state .line) alone)) (p .line-of);
+        };
+        replied = unnamed-reply d (r .answer) (q .answer);
+      }
+
+  -- a join or a withdrawal, which leaves the table
+  line-next : (c : Call) (line′ : List ℕ) (r : ℕ) → Quiet S (step h S c) → LineCalled (step h (stateIn image line) c) line r line′ → Next h S c (unnamed r) image line′
+  line-next c line′ r quiet on =
+      let q = subst (λ (o : Done). LineCalled o line r line′) (on-state c) on in
+      record {
+        images = record {
+          table = subst (IsImage 4096 image) (sym (quiet .table)) (p .table);
+          line-of = subst (λ (bytes : List ℕ). IsImage 193 bytes (step h S c .state .line)) (sym (q .line-bytes))
+              (image-after 193 (step h S c .answer) (step h S c .state .line) line (S .line) (p .line-of) (long c .numbers)
+              (λ ne. ap (λ (R : State). R .line) (b .line .refused-keeps c ne)));
+        };
+        replied = λ i. record { answer = q .answer i; named = sym (quiet .named) i };
+      }
+
+  admit-next : (list image′ line′ list′ : List ℕ) (r : Admission) → AdmittedOn h image line list r image′ line′ list′
+      → Next h S (admit (entriesIn list)) (naming (r .answer) (r .tenant)) image′ line′
+  admit-next list image′ line′ list′ r on =
+      let c = admit (entriesIn list) in
+      let q = subst (λ (o : Done). ReportedAdmission o image line list r image′ line′ list′) (on-state c) on in
+      let below : (t : ℕ) → step h S c .named ≡ some t → t < 4096 = λ t e. b .line .names-waiting (entriesIn list) t e .0 in
+      let named : cond (eqb (r .tenant) 65535) none (some (r .tenant)) ≡ step h S c .named =
+      ap (λ (n : ℕ). cond (eqb n 65535) none (some n)) (q .tenant) ∙ named-again (step h S c .named) below in
+      record {
+        images =
+            images-after (step h S c) image line image′ line′ S p (long c) (b .line .refused-keeps c) (q .behind .of-table .table) (q .behind .line-bytes);
+        replied = λ i. record { answer = q .behind .of-table .answer i; named = named i };
+      }
+
+  next : (c : Call) (r : Reply) (image′ line′ : List ℕ) → Exported h image line c r image′ line′ → Next h S c r image′ line′
+  next c r image′ line′ (reserve-grant-level {list = list} {list′ = list′} {r = o} t l on) = behind-next (grant-level t l) list image′ line′ list′ o on
+  next c r image′ line′ (reserve-grant-pages {list = list} {list′ = list′} {r = o} t g on) = behind-next (grant-pages t g) list image′ line′ list′ o on
+  next c r image′ line′ (reserve-release {list = list} {list′ = list′} {r = o} t on) =
+      alone-next (release t) list image′ list′ o (release-alone h S (release t (entriesIn list)) releases) on
+  next c r image′ line′ (reserve-grow {list = list} {list′ = list′} {r = o} t l on) =
+      alone-next (grow t l) list image′ list′ o (growth-alone h S (grow t l (entriesIn list)) l grows) on
+  next c r image′ line′ (reserve-join {r = n} t l on) = line-next (join t l) line′ n (join-quiet h S t l) on
+  next c r image′ line′ (reserve-withdraw {r = n} t on) = line-next (withdraw t) line′ n (withdraw-quiet h S t) on
+  next c r image′ line′ (reserve-admit {list = list} {list′ = list′} {r = o} on) = admit-next list image′ line′ list′ o on
 
 -- ---- a whole history over bytes
 
--- the bytes and the numbers reported are those of a history of tables
-record Follows (h : ℕ) (image : List ℕ) (calls : List Call) (answers : List ℕ) : Type 0 where
-  lent : List ℕ
-  accepted : open-reserve h lent .answer ≡ 0
-  imaged : IsImage image (tableFrom h (open-reserve h lent .table) calls)
-  answered : answers ≡ answersFrom h (open-reserve h lent .table) calls
+-- the bytes and the replies are those of a history of tables and lines
+record Follows (h : ℕ) (image line : List ℕ) (calls : List Call) (replies : List Reply) : Type 0 where
+  lent-first : State
+  accepted-first : open-reserve h lent-first .answer ≡ 0
+  images : Images image line (stateFrom h (open-reserve h lent-first .state) calls)
+  replied : replies ≡ repliesFrom h (open-reserve h lent-first .state) calls
 
-abbrev history : {h : ℕ} {image answers : List ℕ} {calls : List Call} → Follows h image calls answers → History h
-history {calls = calls} F = record { lent = F .lent; opened = F .accepted; calls = calls }
+abbrev history : {h : ℕ} {image line : List ℕ} {calls : List Call} {replies : List Reply} → Follows h image line calls replies → History h
+history {calls = calls} F = record { lent = F .lent-first; opened = F .accepted-first; calls = calls }
 
-follows-opening : (h : ℕ) (image image′ : List ℕ) → open-reserve h (tableOf image) .answer ≡ 0
-    → image′ ≡ imageAfter (open-reserve h (tableOf image)) image → Follows h image′ [] []
-unfolding tableFrom answersFrom
-follows-opening h image image′ e f =
-    let H : History h = record { lent = tableOf image; opened = e; calls = [] } in
+-- after every call of a history the state is as long as it was
+long-next : (h : ℕ) (lent : State) (accepted : open-reserve h lent .answer ≡ 0) (calls : List Call) (c : Call)
+    → Long (step h (stateFrom h (open-reserve h lent .state) calls) c .state)
+long-next h lent accepted calls c =
+    let H : History h = record { lent = lent; opened = accepted; calls = calls ++ c ∷ [] } in
+    subst Long (state-of-one-more h (open-reserve h lent .state) calls c) (long-kept h (stateAfter h H) (bookAfter h H) (history-kept h H))
+
+follows-opening : (h : ℕ) (image line image′ line′ : List ℕ) (r : ℕ) → OpenedOn h image line r image′ line′ → r ≡ 0 → Follows h image′ line′ [] []
+unfolding stateFrom repliesFrom
+follows-opening h image line image′ line′ r on z =
+    let o = open-reserve h (stateIn image line) in
+    let zero-answer : o .answer ≡ 0 = sym (on .called .answer) ∙ z in
+    let H : History h = record { lent = stateIn image line; opened = zero-answer; calls = [] } in
+    let long = long-kept h (o .state) (bookAfter h H) (history-kept h H) in
     record {
-      lent = tableOf image;
-      accepted = e;
-      imaged = rw (f, e) (image-of (open-reserve h (tableOf image) .table) (kept-by-history h H .entries));
-      answered = refl;
+      lent-first = stateIn image line;
+      accepted-first = zero-answer;
+      images = record {
+        table = rw (on .table-bytes, zero-answer) (image-of 4096 (o .state .table) (long .entries));
+        line-of = rw (on .called .line-bytes, zero-answer) (image-of 193 (o .state .line) (long .numbers));
+      };
+      replied = refl;
     }
 
-module _ (h : ℕ) (image list image′ list′ answers : List ℕ) (calls : List Call) (call : ℕ → Call) (r : Outcome)
-    (F : Follows h image calls answers) (on : CalledOn h call image list r image′ list′) where
-  abbrev T₀ : List ℕ
-  T₀ = open-reserve h (F .lent) .table
+module _ (h : ℕ) (image line : List ℕ) (calls : List Call) (replies : List Reply) (F : Follows h image line calls replies) where
+  next-of : (c : Call) (r : Reply) (image′ line′ : List ℕ) → Exported h image line c r image′ line′
+      → Next h (stateFrom h (open-reserve h (F .lent-first) .state) calls) c r image′ line′
+  next-of c r image′ line′ x =
+      next h (stateFrom h (open-reserve h (F .lent-first) .state) calls) (bookAfter h (history F))
+      (box h (stateAfter h (history F)) (bookAfter h (history F)) (history-kept h (history F)))
+      (long-next h (F .lent-first) (F .accepted-first) calls) image line (F .images) c r image′ line′ x
 
-  abbrev T : List ℕ
-  T = tableFrom h T₀ calls
+  follows-call : (c : Call) (r : Reply) (image′ line′ : List ℕ) → Exported h image line c r image′ line′
+      → Follows h image′ line′ (calls ++ c ∷ []) (replies ++ r ∷ [])
+  follows-call c r image′ line′ x =
+      let n = next-of c r image′ line′ x in
+      let S₁ = open-reserve h (F .lent-first) .state in
+      record {
+        lent-first = F .lent-first;
+        accepted-first = F .accepted-first;
+        images = subst (Images image′ line′) (sym (state-of-one-more h S₁ calls c)) (n .images);
+        replied = ap₂ (λ (rs : List Reply) (q : Reply). rs ++ q ∷ []) (F .replied) (n .replied) ∙ sym (replies-of-one-more h S₁ calls c);
+      }
 
-  abbrev c : Call
-  c = call (entriesIn list)
-
-  entries : length (step h T c .table) ≡ 4096
-  entries =
-      let H : History h = record { lent = F .lent; opened = F .accepted; calls = calls ++ c ∷ [] } in
-      sym (ap length (table-of-one-more h T₀ calls c)) ∙ kept-by-history h H .entries
-
-  image-next : IsImage image′ (step h T c .table)
-  image-next = rw (on .table, F .imaged .table) (image-after (step h T c) image T (F .imaged) entries (step-keeps h T c))
-
-  answered-next : r .answer ≡ step h T c .answer
-  answered-next = on .answer ∙ ap (λ (S : List ℕ). step h S c .answer) (F .imaged .table)
-
-  follows-call : Follows h image′ (calls ++ call (entriesIn list) ∷ []) (answers ++ r .answer ∷ [])
-  follows-call = record {
-    lent = F .lent;
-    accepted = F .accepted;
-    imaged = rw (table-of-one-more h T₀ calls c) image-next;
-    answered = ap₂ (λ (ns : List ℕ) (n : ℕ). ns ++ n ∷ []) (F .answered) answered-next ∙ sym (answers-of-one-more h T₀ calls c);
-  }
-
-follows : {h : ℕ} {image answers : List ℕ} {calls : List Call} → Led h image calls answers → Follows h image calls answers
-follows (opened image e f z) = follows-opening _ image _ (sym e ∙ z) f
-follows (called {call = call} led x on) = follows-call _ _ _ _ _ _ _ call _ (follows led) on
+follows : {h : ℕ} {image line : List ℕ} {calls : List Call} {replies : List Reply} → Led h image line calls replies → Follows h image line calls replies
+follows (opened image line {r = r} on z) = follows-opening _ image line _ _ r on z
+follows (called {image = image} {line = line} {calls = calls} {replies = replies} {c = c} {r = r} led x) =
+    follows-call _ image line calls replies (follows led) c r _ _ x
 
 -- ---- the bytes of one box
 
--- an outcome that changes nothing leaves the image of its table and any list
-untouched : (t : ℕ) (o : Result) (image list image′ list′ : List ℕ) (r : Outcome) → image ≡ imageOf (tableOf image) → Unchanged t (tableOf image) o
-    → Reported o image list r image′ list′ → Untouched (nodeAt (tableOf image) t) image list r image′ list′
+-- an outcome that changes nothing leaves the images of its table and its line and any list
+untouched : (t : ℕ) (o : Done) (image line list image′ line′ list′ : List ℕ) (r : Outcome) → image ≡ imageOf (tableOf image) → line ≡ imageOf (lineIn line)
+    → Unchanged t (tableOf image) (on-table o) → o .state .line ≡ lineIn line → ReportedBehind o image line list r image′ line′ list′
+    → Untouched (nodeAt (tableOf image) t) image line list r image′ line′ list′
 unfolding imageOf numbersOf
-untouched t o image list image′ list′ r imaged u p = record {
-  answer = p .answer ∙ u .answer;
-  node = p .node ∙ u .node;
-  moves = p .count ∙ ap length (u .moves);
-  table-bytes = p .table ∙ rw (u .answer, u .table) (sym imaged);
-  list-bytes = p .moves ∙ rw (u .answer, u .moves);
+untouched t o image line list image′ line′ list′ r imaged lined u same p = record {
+  answer = p .of-table .answer ∙ u .answer;
+  node = p .of-table .node ∙ u .node;
+  moves = p .of-table .count ∙ ap length (u .moves);
+  table-bytes = p .of-table .table ∙ rw (u .answer, u .table) (sym imaged);
+  line-bytes = p .line-bytes ∙ rw (u .answer, same) (sym lined);
+  list-bytes = p .of-table .moves ∙ rw (u .answer, u .moves);
 }
 
-imaged-by-its-table : {h : ℕ} {image answers : List ℕ} {calls : List Call} → Follows h image calls answers → image ≡ imageOf (tableOf image)
-imaged-by-its-table F = F .imaged .bytes ∙ ap imageOf (sym (F .imaged .table))
-
-bytes-of-box : (h : ℕ) (image answers : List ℕ) (calls : List Call) (B : Book) → Follows h image calls answers → Box h (tableOf image) B
-    → BytesOfBox h image B
-bytes-of-box h image answers calls B F box = record {
-  image-of-table = imaged-by-its-table F;
-  next-table = λ call list image′ list′ r on.
-      image-next h image list image′ list′ answers calls call r F on .table
-      ∙ ap (λ (T : List ℕ). step h T (call (entriesIn list)) .table) (sym (F .imaged .table));
-  repeated-grants = λ call list image′ list′ r on l a v e.
-      let c = call (entriesIn list) in
-      untouched (tenantOf c) (step h (tableOf image) c) image list image′ list′ r (imaged-by-its-table F) (box .holder-repeats c l a v e) on;
-}
+bytes-of-box : (h : ℕ) (image line : List ℕ) (calls : List Call) (replies : List Reply) (B : Book) → Follows h image line calls replies
+    → Box h (stateIn image line) B → BytesOfBox h image line B
+bytes-of-box h image line calls replies B F bx =
+    let at = state-in (F .images) in
+    let imaged = F .images .table .bytes-are ∙ ap imageOf (sym (F .images .table .numbers)) in
+    let lined = F .images .line-of .bytes-are ∙ ap imageOf (sym (F .images .line-of .numbers)) in
+    record {
+      image-of-table = imaged;
+      image-of-line = lined;
+      next-state = λ c r image′ line′ x.
+          state-in (next-of h image line calls replies F c r image′ line′ x .images) ∙ ap (λ (S : State). step h S c .state) (sym at);
+      next-reply = λ c r image′ line′ x.
+          next-of h image line calls replies F c r image′ line′ x .replied ∙ ap (λ (S : State). reply (step h S c)) (sym at);
+      repeated-grants = λ call list image′ line′ list′ r on l a v e.
+          let c = call (entriesIn list) in
+          let again = bx .holder-repeats c l a v e in
+          untouched (tenantOf c) (step h (stateIn image line) (direct c)) image line list image′ line′ list′ r imaged lined (again .0) (again .1) on;
+    }
 
 -- ---- two boxes
 
-same-report : (N : Type 0) (most : ℕ) (o₁ o₂ : Result) (r₁ r₂ : Outcome) (image₁ image₂ list₁ list₂ image₁′ image₂′ list₁′ list₂′ : List ℕ)
+same-report : (N : Type 0) (most : ℕ) (o₁ o₂ : TableOutcome) (r₁ r₂ : Outcome) (image₁ image₂ list₁ list₂ image₁′ image₂′ list₁′ list₂′ : List ℕ)
     → Reported o₁ image₁ list₁ r₁ image₁′ list₁′ → Reported o₂ image₂ list₂ r₂ image₂′ list₂′ → SameFate N most o₁ o₂ → SameReport N most r₁ r₂
 same-report N most o₁ o₂ r₁ r₂ image₁ image₂ list₁ list₂ image₁′ image₂′ list₁′ list₂′ p₁ p₂ (SameFate.no-room a b n) =
     no-room (p₁ .answer ∙ a) (p₂ .answer ∙ b) n
 same-report N most o₁ o₂ r₁ r₂ image₁ image₂ list₁ list₂ image₁′ image₂′ list₁′ list₂′ p₁ p₂ (SameFate.room a b m k n) =
     room (p₁ .answer ∙ a) (p₂ .answer ∙ b) (rw (p₁ .count) m) (rw (p₂ .count) k) n
 
-pub boxes-of-tables : (h : ℕ) (H₁ H₂ : History h) {T₁ T₂ answers₁ answers₂ : List ℕ} → T₁ ≡ tableAfter h H₁ → T₂ ≡ tableAfter h H₂
-    → answers₁ ≡ answersOf h H₁ → answers₂ ≡ answersOf h H₂ → Boxes h T₁ T₂ (bookOf h (H₁ .calls) answers₁) (bookOf h (H₂ .calls) answers₂)
-boxes-of-tables h H₁ H₂ t₁ t₂ a₁ a₂ = rw (t₁, t₂, a₁, a₂) (demand-3 h H₁ H₂)
+pub boxes-of-states : (h : ℕ) (H₁ H₂ : History h) {S₁ S₂ : State} {replies₁ replies₂ : List Reply} → S₁ ≡ stateAfter h H₁ → S₂ ≡ stateAfter h H₂
+    → replies₁ ≡ repliesOf h H₁ → replies₂ ≡ repliesOf h H₂ → Boxes h S₁ S₂ (bookOf h (H₁ .calls) replies₁) (bookOf h (H₂ .calls) replies₂)
+boxes-of-states h H₁ H₂ s₁ s₂ a₁ a₂ = rw (s₁, s₂, a₁, a₂) (demand-3 h H₁ H₂)
+
+-- a growth reports what it would behind a line
+growth-behind : (h : ℕ) (image line list : List ℕ) (c : Direct) (l : ℕ) (r : Outcome) (image′ list′ : List ℕ) → Grows c l
+    → Reported (table-step h (tableOf image) c) image list r image′ list′
+    → Reported (on-table (step h (stateIn image line) (direct c))) image list r image′ list′
+growth-behind h image line list c l r image′ list′ g p =
+    subst (λ (o : TableOutcome). Reported o image list r image′ list′) (sym (ap on-table (growth-alone h (stateIn image line) c l g))) p
 
 pub demand-3-of-bytes : BytesDemand3
-demand-3-of-bytes h image₁ image₂ answers₁ answers₂ calls₁ calls₂ led₁ led₂ =
+demand-3-of-bytes h image₁ line₁ image₂ line₂ calls₁ calls₂ replies₁ replies₂ led₁ led₂ =
     let F₁ = follows led₁ in
     let F₂ = follows led₂ in
-    let both = boxes-of-tables h (history F₁) (history F₂) (F₁ .imaged .table) (F₂ .imaged .table) (F₁ .answered) (F₂ .answered) in
+    let both = boxes-of-states h (history F₁) (history F₂) (state-in (F₁ .images)) (state-in (F₂ .images)) (F₁ .replied) (F₂ .replied) in
     record {
       boxes = both;
-      bytes-one = bytes-of-box h image₁ answers₁ calls₁ (bookOf h calls₁ answers₁) F₁ (both .one);
-      bytes-two = bytes-of-box h image₂ answers₂ calls₂ (bookOf h calls₂ answers₂) F₂ (both .two);
-      same-reports = λ e call₁ call₂ list₁ list₂ image₁′ image₂′ list₁′ list₂′ r₁ r₂ on₁ on₂ l a₁ a₂ v₁ v₂ n₁ n₂.
-          same-report _ 3 _ _ r₁ r₂ _ _ _ _ _ _ _ _ on₁ on₂ (both .same-fate e _ _ l a₁ a₂ v₁ v₂ n₁ n₂);
+      bytes-one = bytes-of-box h image₁ line₁ calls₁ replies₁ (bookOf h calls₁ replies₁) F₁ (both .one);
+      bytes-two = bytes-of-box h image₂ line₂ calls₂ replies₂ (bookOf h calls₂ replies₂) F₂ (both .two);
+      same-reports = λ e free₁ free₂ call₁ call₂ list₁ list₂ image₁′ image₂′ line₁′ line₂′ list₁′ list₂′ r₁ r₂ on₁ on₂ l a₁ a₂ v₁ v₂ n₁ n₂ w₁ w₂.
+          same-report _ 3 _ _ r₁ r₂ _ _ _ _ _ _ _ _ (on₁ .of-table) (on₂ .of-table) (both .same-fate e free₁ free₂ _ _ l a₁ a₂ v₁ v₂ n₁ n₂ w₁ w₂);
       same-growths = λ e call₁ call₂ list₁ list₂ image₁′ image₂′ list₁′ list₂′ r₁ r₂ on₁ on₂ l k g₁ g₂ v₁ v₂ n₁ n₂.
-          same-report _ 7 _ _ r₁ r₂ _ _ _ _ _ _ _ _ on₁ on₂ (both .same-growth e _ _ l k g₁ g₂ v₁ v₂ n₁ n₂);
+          same-report _ 7 _ _ r₁ r₂ _ _ _ _ _ _ _ _ (growth-behind h image₁ line₁ list₁ _ l r₁ image₁′ list₁′ g₁ on₁)
+          (growth-behind h image₂ line₂ list₂ _ l r₂ image₂′ list₂′ g₂ on₂) (both .same-growth e _ _ l k g₁ g₂ v₁ v₂ n₁ n₂);
     }

@@ -1,46 +1,54 @@
--- A listing shows a history: the answers, nodes and moves in its lines are those of `step` along the calls of its records.
+-- A listing shows a history: the answers, nodes, named tenants and moves in its lines are those of `step` along the calls of its records.
 use mathlib.Core.Path.{_≡_}
 use mathlib.Core.List.{List, [], _∷_, _++_, map}
+use mathlib.Core.Option.{none}
 use Prim.Native.Nat.{ℕ, _+_, _≤_, _<_}
-use lib.ListN.{length, replicate}
+use lib.ListN.{length}
 use Rattle.journal.specs.declared.Record.{Record}
 use Rattle.journal.specs.declared.Read.{Read}
 use Rattle.journal.specs.Journal.{Reading}
-use Rattle.calls.specs.Call.{Call, grant-level, grant-pages, release, grow}
-use Rattle.calls.specs.Step.{Outcome, step, open-reserve}
-use Rattle.calls.specs.History.{History, tableAfter, Book}
-use Rattle.calls.specs.Demand.{Box, Boxes}
+use Rattle.calls.specs.Call.{grant-level, grant-pages, release, grow}
+use Rattle.admission.specs.Call.{State, Call, direct, join, admit, withdraw}
+use Rattle.admission.specs.Step.{Outcome, step, open-reserve}
+use Rattle.boxes.specs.History.{History, Reply, reply, stateAfter, Book, bookFrom}
+use Rattle.boxes.specs.Demand.{Box, Boxes}
 use Rattle.lines.specs.Line.{lineOf, stopLine}
-use Rattle.replay.specs.Listing.{listing}
-use Rattle.histories.specs.Bytes.{bookOf}
+use Rattle.replay.specs.Listing.{vacant, listing}
 
 -- ---- the history of a journal
 
--- the calls that records stand for, each with four move entries lent, or seven for a growth; an open stands for none
+-- the call that a record stands for, with four move entries lent, or seven for a growth; an open stands for none
+abbrev pub callOf : Record → List Call
+callOf (Record.Open height) = []
+callOf (Record.GrantLevel tenant level) = direct (grant-level tenant level 4) ∷ []
+callOf (Record.GrantPages tenant pages) = direct (grant-pages tenant pages 4) ∷ []
+callOf (Record.Release tenant) = direct (release tenant 4) ∷ []
+callOf (Record.Grow tenant level) = direct (grow tenant level 7) ∷ []
+callOf (Record.Join tenant level) = join tenant level ∷ []
+callOf Record.Admit = admit 4 ∷ []
+callOf (Record.Withdraw tenant) = withdraw tenant ∷ []
+
+-- the calls that records stand for
 unfoldable pub callsOf : List Record → List Call
 callsOf [] = []
-callsOf (Record.Open height ∷ rs) = callsOf rs
-callsOf (Record.GrantLevel tenant level ∷ rs) = grant-level tenant level 4 ∷ callsOf rs
-callsOf (Record.GrantPages tenant pages ∷ rs) = grant-pages tenant pages 4 ∷ callsOf rs
-callsOf (Record.Release tenant ∷ rs) = release tenant 4 ∷ callsOf rs
-callsOf (Record.Grow tenant level ∷ rs) = grow tenant level 7 ∷ callsOf rs
+callsOf (r ∷ rs) = callOf r ++ callsOf rs
 
--- the opening of an empty table at height h is accepted
+-- the opening of an empty table and an empty line at height h is accepted
 abbrev pub Opens : ℕ → Type 0
-Opens h = open-reserve h (replicate 4096 0) .answer ≡ 0
+Opens h = open-reserve h vacant .answer ≡ 0
 
 -- the history of an open and the records after it
 abbrev pub historyOf : (h : ℕ) → Opens h → List Record → History h
-historyOf h accepted rs = record { lent = replicate 4096 0; opened = accepted; calls = callsOf rs }
+historyOf h accepted rs = record { lent = vacant; opened = accepted; calls = callsOf rs }
 
--- what calls report, each on the table that the last one left
-unfoldable pub outcomesFrom : ℕ → List ℕ → List Call → List Outcome
-outcomesFrom h T [] = []
-outcomesFrom h T (c ∷ cs) = step h T c ∷ outcomesFrom h (step h T c .table) cs
+-- what calls report, each on the table and the line that the last one left
+unfoldable pub outcomesFrom : ℕ → State → List Call → List Outcome
+outcomesFrom h S [] = []
+outcomesFrom h S (c ∷ cs) = step h S c ∷ outcomesFrom h (step h S c .state) cs
 
 -- what the calls of a whole history report
 abbrev pub outcomesOf : (h : ℕ) → History h → List Outcome
-outcomesOf h H = outcomesFrom h (open-reserve h (H .lent) .table) (H .calls)
+outcomesOf h H = outcomesFrom h (open-reserve h (H .lent) .state) (H .calls)
 
 -- the same for the history of records
 abbrev pub reported : (h : ℕ) → Opens h → List Record → List Outcome
@@ -50,13 +58,17 @@ reported h accepted rs = outcomesOf h (historyOf h accepted rs)
 
 -- the open's line
 abbrev pub openLine : ℕ → List ℕ
-openLine h = lineOf 1 (Record.Open h) 0 0 []
+openLine h = lineOf 1 (Record.Open h) 0 0 none []
+
+-- the line of a record with what its call reported
+abbrev pub lineWith : ℕ → Record → Outcome → List ℕ
+lineWith n r o = lineOf n r (o .answer) (o .node) (o .named) (o .moves)
 
 -- the lines of records with what their calls reported, after n others
 unfoldable pub linesAfter : ℕ → List Record → List Outcome → List ℕ
 linesAfter n [] os = []
 linesAfter n (r ∷ rs) [] = []
-linesAfter n (r ∷ rs) (o ∷ os) = lineOf (n + 1) r (o .answer) (o .node) (o .moves) ++ linesAfter (n + 1) rs os
+linesAfter n (r ∷ rs) (o ∷ os) = lineWith (n + 1) r o ++ linesAfter (n + 1) rs os
 
 -- what follows them: nothing at the end of the journal, else the line of the refusal; a reading does not end with a record
 abbrev pub lastLine : Read → List ℕ
@@ -81,20 +93,24 @@ ListingIsHistory = (journal : List ℕ) (rs : List Record) (last : Read) → Rea
 
 -- ---- the promises at every point of a listing
 
--- the table after an open of height h and the records so far
-abbrev pub tableAt : (h : ℕ) → Opens h → List Record → List ℕ
-tableAt h accepted rs = tableAfter h (historyOf h accepted rs)
+-- the table and the line after an open of height h and the records so far
+abbrev pub stateAt : (h : ℕ) → Opens h → List Record → State
+stateAt h accepted rs = stateAfter h (historyOf h accepted rs)
 
--- the book then: from the records' arguments and the answers in their lines alone
+-- the book of calls after an opening at height h: from their arguments, the numbers that they answered and the tenants that they named alone
+abbrev pub bookOf : ℕ → List Call → List Reply → Book
+bookOf h calls replies = bookFrom h (record { holdings = λ t. none; events = [] }) calls replies
+
+-- the book then: from the records' arguments, and the answers and the named tenants in their lines
 abbrev pub bookAt : (h : ℕ) → Opens h → List Record → Book
-bookAt h accepted rs = bookOf h (callsOf rs) (map (λ (o : Outcome). o .answer) (reported h accepted rs))
+bookAt h accepted rs = bookOf h (callsOf rs) (map reply (reported h accepted rs))
 
--- a point of a listing: the lines so far and those to come, and what holds of the table and the book there
+-- a point of a listing: the lines so far and those to come, and what holds of the table, the line and the book there
 pub record Point (journal : List ℕ) (h : ℕ) (accepted : Opens h) (before after : List Record) (last : Read) : Type 0 where
   pub lines : listing journal
       ≡ openLine h ++ linesAfter 1 before (reported h accepted before)
-      ++ linesAfter (1 + length before) after (outcomesFrom h (tableAt h accepted before) (callsOf after)) ++ lastLine last
-  pub box : Box h (tableAt h accepted before) (bookAt h accepted before)
+      ++ linesAfter (1 + length before) after (outcomesFrom h (stateAt h accepted before) (callsOf after)) ++ lastLine last
+  pub box : Box h (stateAt h accepted before) (bookAt h accepted before)
 
 -- the promises of a history hold after every line of a listing
 abbrev pub PromisesOfListing : Type 0
@@ -104,4 +120,4 @@ PromisesOfListing = (journal : List ℕ) (h : ℕ) (accepted : Opens h) (before 
 -- demand 3 for any two points of listings at one height
 abbrev pub ListingsDemand3 : Type 0
 ListingsDemand3 = (h : ℕ) (accepted : Opens h) (before₁ before₂ : List Record)
-    → Boxes h (tableAt h accepted before₁) (tableAt h accepted before₂) (bookAt h accepted before₁) (bookAt h accepted before₂)
+    → Boxes h (stateAt h accepted before₁) (stateAt h accepted before₂) (bookAt h accepted before₁) (bookAt h accepted before₂)

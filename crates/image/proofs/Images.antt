@@ -5,14 +5,14 @@ use Prim.Native.Nat.{ℕ, zero, suc, _+_, _*_, _≤_, _<_}
 use native.Mathlib.Numerals.{add-one}
 use native.Mathlib.Omega.{arith}
 use borrow.Author.Tests.{eq-eqb, ne-eqb}
-use lib.ListN.{length, getD, take, drop, set, length-append, length-drop, drop-of-length-le}
+use lib.ListN.{length, getD, take, drop, set, replicate, length-append, length-drop, drop-of-length-le}
 use lib.Seq.{take-all, drop-cons, drop-drop, take-suc, take-suc-set, take-at, length-take-le, drop-append-add, sets, sets-eq}
 use Rattle.table.specs.Plan.{no-move}
 use Rattle.table.specs.declared.Move.{Move}
 use Rattle.journal.specs.Format.{low, high, word, wordAt}
 use Rattle.journal.proofs.Fields.{word-low-high, low-word, high-word}
 use Rattle.journal.specs.Journal.{Bytes}
-use Rattle.image.specs.Image.{imageOf, numbersIn, tableOf, numbersOf, moveBytes}
+use Rattle.image.specs.Image.{imageOf, numbersIn, lentAs, numbersOf, moveBytes}
 
 -- ---- lengths
 
@@ -70,11 +70,11 @@ encoded-more image₀ nodes image i inv p q =
     let next : 2 * (i + 1) ≡ 2 * i + 2 = omega arith in
     rw (inv, add-one (2 * i), next, image-of-more nodes i p) (stored-behind done image₀ (2 * i) e (imageOf (getD nodes i 0 ∷ [])) q)
 
-pub encoded-all : (image₀ nodes image : List ℕ) → image ≡ imageOf (take 4096 nodes) ++ drop 8192 image₀
-    → length nodes ≡ 4096 → length image₀ ≡ 8192 → image ≡ imageOf nodes
-encoded-all image₀ nodes image inv p q =
-    let whole : take 4096 nodes ≡ nodes = take-all 4096 nodes (omega arith) in
-    let none : drop 8192 image₀ ≡ [] = drop-of-length-le image₀ {i = 8192} (omega arith) in
+pub encoded-all : (image₀ nodes image : List ℕ) (n : ℕ) → n ≡ length nodes → image ≡ imageOf (take n nodes) ++ drop (2 * n) image₀
+    → length image₀ ≡ 2 * length nodes → image ≡ imageOf nodes
+encoded-all image₀ nodes image n all inv q =
+    let whole : take n nodes ≡ nodes = take-all n nodes (omega arith) in
+    let none : drop (2 * n) image₀ ≡ [] = drop-of-length-le image₀ {i = 2 * n} (omega arith) in
     inv ∙ ap₂ (λ (a b : List ℕ). imageOf a ++ b) whole none ∙ append-nil (imageOf nodes)
 
 pub put-more : (list₀ : List ℕ) (ms : List Move) (list : List ℕ) (i : ℕ) → list ≡ moveBytes (take i ms) ++ drop (8 * i) list₀
@@ -103,15 +103,15 @@ four-numbers l at a b c d =
     let two : at + 2 ≡ suc (suc at) = omega arith in
     rw (seven, six, five, four, three, two, add-one at)
 
--- ---- the table of an image
+-- ---- the numbers of an image
 
-pub table-of-other : (image : List ℕ) → ¬ (length image ≡ 8192) → tableOf image ≡ []
-unfolding tableOf
-table-of-other image ne = rw (ne-eqb (length image) 8192 ne)
+pub lent-as-none : (n : ℕ) (image : List ℕ) → ¬ (length image ≡ 2 * n) → lentAs n image ≡ []
+unfolding lentAs
+lent-as-none n image ne = rw (ne-eqb (length image) (2 * n) ne)
 
-pub table-of-whole : (image : List ℕ) → length image ≡ 8192 → tableOf image ≡ numbersIn image
-unfolding tableOf
-table-of-whole image e = rw (eq-eqb (length image) 8192 e)
+pub lent-as-all : (n : ℕ) (image : List ℕ) → length image ≡ 2 * n → lentAs n image ≡ numbersIn image
+unfolding lentAs
+lent-as-all n image e = rw (eq-eqb (length image) (2 * n) e)
 
 -- ---- one number more read
 
@@ -134,13 +134,13 @@ decoded-more s nodes i inv p q =
     ∙ ap (λ (l : List ℕ). take i nodes ++ l) (sym (next-number s i q))
     ∙ inv
 
-pub decoded-all : (s nodes : List ℕ) → length s ≡ 8192 → take 4096 nodes ++ numbersIn (drop 8192 s) ≡ numbersIn s → take 4096 nodes ≡ tableOf s
+pub decoded-all : (s numbers : List ℕ) (i : ℕ) → i ≡ length numbers → length s ≡ 2 * length numbers
+    → take i numbers ++ numbersIn (drop (2 * i) s) ≡ numbersIn s → numbers ≡ numbersIn s
 unfolding numbersIn
-decoded-all s nodes e inv =
-    sym (append-nil (take 4096 nodes))
-    ∙ ap (λ (l : List ℕ). take 4096 nodes ++ numbersIn l) (sym (drop-of-length-le s {i = 8192} (omega arith)))
+decoded-all s numbers i all e inv =
+    sym (append-nil numbers)
+    ∙ ap₂ (λ (a b : List ℕ). a ++ numbersIn b) (sym (take-all i numbers (omega arith))) (sym (drop-of-length-le s {i = 2 * i} (omega arith)))
     ∙ inv
-    ∙ sym (table-of-whole s e)
 
 -- ---- there and back
 
@@ -149,9 +149,9 @@ unfolding numbersIn imageOf
 numbers-of-image [] = refl
 numbers-of-image (n ∷ T) = ap₂ (λ (x : ℕ) (xs : List ℕ). x ∷ xs) (word-low-high n) (numbers-of-image T)
 
--- a table is what its image stands for
-pub table-of-image : (T : List ℕ) → length T ≡ 4096 → tableOf (imageOf T) ≡ T
-table-of-image T e = table-of-whole (imageOf T) (omega (arith, image-length T)) ∙ numbers-of-image T
+-- n numbers are what their image stands for
+pub numbers-of-their-image : (n : ℕ) (T : List ℕ) → length T ≡ n → lentAs n (imageOf T) ≡ T
+numbers-of-their-image n T e = lent-as-all n (imageOf T) (omega (arith, image-length T)) ∙ numbers-of-image T
 
 image-of-numbers : (k : ℕ) (s : List ℕ) → length s ≡ 2 * k → Bytes s → imageOf (numbersIn s) ≡ s
 unfolding numbersIn imageOf
@@ -161,9 +161,25 @@ image-of-numbers zero (lo ∷ hi ∷ s) e b = absurd (omega arith)
 image-of-numbers (suc k) (lo ∷ hi ∷ s) e b =
     rw (low-word lo hi (b 0), high-word lo hi (b 0), image-of-numbers k s (omega arith) (λ i. b (suc (suc i))))
 
--- the image of what 8,192 bytes stand for is those bytes: to write a table back that did not change changes no byte
-pub image-of-table : (image : List ℕ) → length image ≡ 8192 → Bytes image → imageOf (tableOf image) ≡ image
-image-of-table image e b = rw (table-of-whole image e) (image-of-numbers 4096 image e b)
+-- 2n bytes are n numbers
+pub numbers-length : (n : ℕ) (s : List ℕ) → length s ≡ 2 * n → length (numbersIn s) ≡ n
+unfolding numbersIn
+numbers-length n [] e = omega arith
+numbers-length n (lo ∷ []) e = absurd (omega arith)
+numbers-length zero (lo ∷ hi ∷ s) e = absurd (omega arith)
+numbers-length (suc n) (lo ∷ hi ∷ s) e = ap suc (numbers-length n s (omega arith))
+
+-- the image of zeros
+pub image-of-zeros : (n : ℕ) → imageOf (replicate n 0) ≡ replicate (2 * n) 0
+unfolding imageOf
+image-of-zeros zero = refl
+image-of-zeros (suc n) =
+    let two : 2 * suc n ≡ suc (suc (2 * n)) = omega arith in
+    rw two (ap (λ (l : List ℕ). 0 ∷ 0 ∷ l) (image-of-zeros n))
+
+-- the image of what 2n bytes stand for is those bytes: to write numbers back that did not change changes no byte
+pub image-of-lent : (n : ℕ) (image : List ℕ) → length image ≡ 2 * n → Bytes image → imageOf (lentAs n image) ≡ image
+image-of-lent n image e b = rw (lent-as-all n image e) (image-of-numbers n image e b)
 
 -- the image of numbers of 16 bits is made of bytes
 pub image-bytes : (T : List ℕ) → ((i : ℕ) → getD T i 0 < 65536) → Bytes (imageOf T)

@@ -1,4 +1,4 @@
-// Numbers of 16 bits as bytes, the low byte first: the image of a table and of a list of moves.
+// Numbers of 16 bits as bytes, the low byte first: the image of a table, of a line and of a list of moves.
 ghost use mathlib.Core.Path.{_≡_};
 ghost use mathlib.Core.List.{[], _∷_, _++_};
 ghost use Prim.Native.Nat.{_+_, _*_, _≤_};
@@ -9,40 +9,36 @@ ghost use Rattle.image.specs.Image.{imageOf, moveBytes, readInto, Decode
 use journal::put_word;
 use journal::word;
 use table::Move;
-use table::TENANTS;
 use table::plan::Plan;
 
-// The bytes of the image of a table, and of a move.
-const TABLE_BYTES: usize = 8192;
-
+// The bytes of a move.
 pub const MOVE_BYTES: usize = 8;
 
-// Reads the table that an image stands for into the array, and says how many entries it has: none, and the array stays as it was, if the image
-// does not have 8,192 bytes.
-pub fn decode(image: &[u8], nodes: &mut [u16; TENANTS]) -> usize
-    requires { ⌜ length (now nodes) ≡ 4096 ⌝ }
-    ensures front { λ r. ⌜ Decoded (now (image .entry)) (now (nodes .exit)) r ⌝ }
-    ensures nodes { λ _. ⌜ now (nodes .exit) ≡ readInto (now (image .entry)) (now (nodes .entry)) ⌝ }
+// Reads the numbers that an image stands for, and says how many they are: all, or none, and the numbers stay as they were, if the image has another
+// length than two bytes for each.
+pub fn decode(image: &[u8], numbers: &mut [u16]) -> usize
+    ensures front { λ r. ⌜ Decoded (now (image .entry)) (now (numbers .exit)) r ⌝ }
+    ensures numbers { λ _. ⌜ now (numbers .exit) ≡ readInto (now (image .entry)) (now (numbers .entry)) ⌝ }
 {
-    if image.len() != TABLE_BYTES {
+    if image.len() != 2 * numbers.len() {
         return 0;
     }
     let mut i = 0;
-    while i < TENANTS {
-        nodes[i] = word(image[2 * i], image[2 * i + 1]);
+    while i < numbers.len() {
+        numbers[i] = word(image[2 * i], image[2 * i + 1]);
         i += 1;
     }
-    TENANTS
+    i
 }
 
-// Writes the image of a table.
-pub fn encode(nodes: &[u16; TENANTS], image: &mut [u8])
-    requires { ⌜ (length (now nodes) ≡ 4096) × (length (now image) ≡ 8192) ⌝ }
-    ensures { λ _. ⌜ now (image .exit) ≡ imageOf (now (nodes .entry)) ⌝ }
+// Writes the image of numbers.
+pub fn encode(numbers: &[u16], image: &mut [u8])
+    requires { ⌜ length (now image) ≡ 2 * length (now numbers) ⌝ }
+    ensures { λ _. ⌜ now (image .exit) ≡ imageOf (now (numbers .entry)) ⌝ }
 {
     let mut i = 0;
-    while i < TENANTS {
-        put_word(image, 2 * i, nodes[i]);
+    while i < numbers.len() {
+        put_word(image, 2 * i, numbers[i]);
         i += 1;
     }
 }

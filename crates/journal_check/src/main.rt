@@ -17,24 +17,34 @@ fn main() {
 
 // Every field at its largest; then numbers whose two bytes differ.
 fn kinds() {
-    list(b"\x01\xff\x02\xff\xff\xff\x03\xff\xff\xff\xff\x04\xff\xff\x05\xff\xff\xff");
-    list(b"\x01\x00\x02\x02\x01\x03\x03\x02\x01\x04\x03\x04\x02\x01\x05\x02\x01\x03");
+    list(
+        b"\x01\xff\x02\xff\xff\xff\x03\xff\xff\xff\xff\x04\xff\xff\x05\xff\xff\xff\x09\xff\xff\xff\x0a\x0b\xff\xff",
+    );
+    list(
+        b"\x01\x00\x02\x02\x01\x03\x03\x02\x01\x04\x03\x04\x02\x01\x05\x02\x01\x03\x09\x02\x01\x03\x0a\x0b\x02\x01",
+    );
 }
 
-// What ends a reading: no journal, another kind first, an unknown kind, a record of each kind cut off, a second open, whole and
-// cut off.
+// What ends a reading: no journal, another kind first, unknown kinds, a record of each kind that has a body cut off, a second
+// open, whole and cut off. Then an admit, which has none, as the last byte.
 fn ends() {
     list(b"");
     list(b"\x02\x00\x00\x01");
     list(b"\x01\x05\x00\x00");
     list(b"\x01\x05\x06");
+    list(b"\x01\x05\x07");
+    list(b"\x01\x05\x08");
+    list(b"\x01\x05\x0c");
     list(b"\x01");
     list(b"\x01\x05\x02\x00\x00");
     list(b"\x01\x05\x03\x00\x00\x00");
     list(b"\x01\x05\x04\x00");
     list(b"\x01\x05\x05\x00\x00");
+    list(b"\x01\x05\x09\x00\x00");
+    list(b"\x01\x05\x0b\x00");
     list(b"\x01\x05\x01\x05");
     list(b"\x01\x05\x01");
+    list(b"\x01\x05\x0a");
 }
 
 // The most bytes that a journal has, and one more, with and without an open.
@@ -80,6 +90,12 @@ fn writes() {
         tenant: 258,
         level: 3,
     });
+    write_in_5(Record::Join {
+        tenant: 258,
+        level: 3,
+    });
+    write_in_5(Record::Admit);
+    write_in_5(Record::Withdraw { tenant: 4095 });
     write_in_4(Record::GrantLevel {
         tenant: 258,
         level: 3,
@@ -161,6 +177,19 @@ fn print_record(offset: usize, rec: Record) {
             print(tenant as usize);
             text(b" level ");
             print(level as usize);
+        }
+        Record::Join { tenant, level } => {
+            text(b" join ");
+            print(tenant as usize);
+            text(b" level ");
+            print(level as usize);
+        }
+        Record::Admit => {
+            text(b" admit");
+        }
+        Record::Withdraw { tenant } => {
+            text(b" withdraw ");
+            print(tenant as usize);
         }
     }
     text(b"\n");

@@ -1,5 +1,6 @@
 // Lists a journal on standard output: that in the file that the argument names, or that on standard input.
 use command::Input;
+use line::NUMBERS;
 
 fn main() {
     let usage =
@@ -15,16 +16,17 @@ fn main() {
         return;
     };
     let mut table = [0u16; 4096];
-    list(&input[..n], &mut table);
+    let mut line = [0u16; NUMBERS];
+    list(&input[..n], &mut table, &mut line);
     command::close_output(b"listing");
 }
 
 // Writes the listing of a journal, block by block. A write that fails ends it.
-fn list(journal: &[u8], table: &mut [u16]) {
+fn list(journal: &[u8], table: &mut [u16], line: &mut [u16]) {
     let mut block = io::large_buffer();
     let mut state = replay::start();
     loop {
-        let filled = replay::fill(state, journal, table, &mut block);
+        let filled = replay::fill(state, journal, table, line, &mut block);
         let length = filled.length;
         if !write_all(&block[..length]) {
             return;

@@ -1,6 +1,7 @@
 -- A journal is refused exactly if its listing ends with a refusal, and with that refusal.
 use mathlib.Core.Path.{_≡_, ap}
 use mathlib.Core.List.{List, [], _++_, append-nil}
+use mathlib.Core.Option.{none}
 use Prim.Native.Nat.{ℕ}
 use borrow.Author.Tests.{lt-ltb, le-ltb}
 use lib.ListN.{length}
@@ -45,7 +46,7 @@ module _ (j : List ℕ) where
 
   history-unmarked : (h : ℕ) (accepted : Opens h) (rs : List Record) → Unmarked (openLine h ++ linesAfter 1 rs (reported h accepted rs))
   history-unmarked h accepted rs =
-      unmarked-both (openLine h) (linesAfter 1 rs (reported h accepted rs)) (line-unmarked 1 (Record.Open h) 0 0 [])
+      unmarked-both (openLine h) (linesAfter 1 rs (reported h accepted rs)) (line-unmarked 1 (Record.Open h) 0 0 none [])
       (lines-unmarked 1 rs (reported h accepted rs))
 
   ends-shown : (rs : List Record) (last : Read) → Reading j 0 rs last → Shows j rs last → AsListed j (judgedAfter (contentsOf rs last .last))

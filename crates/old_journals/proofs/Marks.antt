@@ -1,19 +1,22 @@
 -- No line of a record has a `!` in it.
 use mathlib.Core.Bool.{Bool, true, false, cond}
 use mathlib.Core.List.{List, [], _∷_, _++_, map}
+use mathlib.Core.Option.{Option, some, none}
 use Prim.Native.Nat.{ℕ, zero, suc, _+_}
 use native.Mathlib.Omega.{arith}
 use lib.Dec.{eqb}
 use lib.ListN.{length}
 use Rattle.table.specs.declared.Move.{Move}
 use Rattle.journal.specs.declared.Record.{Record}
-use Rattle.journal.specs.Format.{who}
-use Rattle.calls.specs.Step.{Outcome}
+use Rattle.journal.specs.declared.Kind.{Kind}
+use Rattle.journal.specs.Format.{sameKind, kindOf, who}
+use Rattle.admission.specs.Step.{Outcome}
 use Rattle.lines.specs.Ascii.{byte, bytes}
 use Rattle.lines.specs.Decimal.{decimal, AllDigits}
-use Rattle.lines.specs.Line.{spaced, joined, letter, size, nodeIfDone, nodeField, separator, moveField, moveFields, lineOf}
+use Rattle.lines.specs.Line.{spaced, joined, letter, grantedField, whoField, size, nodeIfDone, hasNode, nodeField, separator, moveField, moveFields}
+use Rattle.lines.specs.Line.{lineOf}
 use Rattle.lines.proofs.Decimal.{decimal-right}
-use Rattle.histories.specs.Listing.{linesAfter}
+use Rattle.histories.specs.Listing.{lineWith, linesAfter}
 use Rattle.old_journals.specs.Promises.{Unmarked}
 
 pub unmarked-both : (xs ys : List ℕ) → Unmarked xs → Unmarked ys → Unmarked (xs ++ ys)
@@ -38,6 +41,20 @@ letter-unmarked (Record.GrantLevel tenant level) = ((λ e. omega arith), tt)
 letter-unmarked (Record.GrantPages tenant pages) = ((λ e. omega arith), tt)
 letter-unmarked (Record.Release tenant) = ((λ e. omega arith), tt)
 letter-unmarked (Record.Grow tenant level) = ((λ e. omega arith), tt)
+letter-unmarked (Record.Join tenant level) = ((λ e. omega arith), tt)
+letter-unmarked Record.Admit = ((λ e. omega arith), tt)
+letter-unmarked (Record.Withdraw tenant) = ((λ e. omega arith), tt)
+
+granted-unmarked : (named : Option ℕ) → Unmarked (grantedField named)
+granted-unmarked none = hyphen-unmarked
+granted-unmarked (some tenant) = decimal-unmarked tenant
+
+who-unmarked : (r : Record) (named : Option ℕ) → Unmarked (whoField r named)
+who-unmarked r named = go (sameKind (kindOf r) Kind.Admit)
+  where
+    go : (b : Bool) → Unmarked (cond b (grantedField named) (decimal (who r)))
+    go true = granted-unmarked named
+    go false = decimal-unmarked (who r)
 
 size-unmarked : (r : Record) → Unmarked (size r)
 size-unmarked (Record.Open height) = hyphen-unmarked
@@ -45,17 +62,20 @@ size-unmarked (Record.GrantLevel tenant level) = decimal-unmarked level
 size-unmarked (Record.GrantPages tenant pages) = decimal-unmarked pages
 size-unmarked (Record.Release tenant) = hyphen-unmarked
 size-unmarked (Record.Grow tenant level) = decimal-unmarked level
+size-unmarked (Record.Join tenant level) = decimal-unmarked level
+size-unmarked Record.Admit = hyphen-unmarked
+size-unmarked (Record.Withdraw tenant) = hyphen-unmarked
 
 done-unmarked : (answer node : ℕ) → Unmarked (nodeIfDone answer node)
 done-unmarked zero node = decimal-unmarked node
 done-unmarked (suc number) node = hyphen-unmarked
 
 node-unmarked : (r : Record) (answer node : ℕ) → Unmarked (nodeField r answer node)
-node-unmarked (Record.Open height) answer node = hyphen-unmarked
-node-unmarked (Record.GrantLevel tenant level) answer node = done-unmarked answer node
-node-unmarked (Record.GrantPages tenant pages) answer node = done-unmarked answer node
-node-unmarked (Record.Release tenant) answer node = done-unmarked answer node
-node-unmarked (Record.Grow tenant level) answer node = done-unmarked answer node
+node-unmarked r answer node = go (hasNode (kindOf r))
+  where
+    go : (b : Bool) → Unmarked (cond b (nodeIfDone answer node) (bytes "-"))
+    go true = done-unmarked answer node
+    go false = hyphen-unmarked
 
 separator-unmarked : (staged : ℕ) → Unmarked (separator staged ∷ [])
 separator-unmarked staged = go (eqb staged 0)
@@ -94,18 +114,18 @@ joined-unmarked : (f : List ℕ) (fs : List (List ℕ)) → Unmarked f → AllUn
 joined-unmarked f fs p q =
     unmarked-both (f ++ spaced fs) (bytes "\n") (unmarked-both f (spaced fs) p (spaced-unmarked fs q)) ((λ e. omega arith), tt)
 
-pub line-unmarked : (n : ℕ) (r : Record) (answer node : ℕ) (moves : List Move) → Unmarked (lineOf n r answer node moves)
+pub line-unmarked : (n : ℕ) (r : Record) (answer node : ℕ) (named : Option ℕ) (moves : List Move) → Unmarked (lineOf n r answer node named moves)
 unfolding lineOf
-line-unmarked n r answer node moves =
+line-unmarked n r answer node named moves =
     let moved : AllUnmarked (moveFields moves) = (decimal-unmarked (length moves), moves-unmarked moves) in
     let reported : AllUnmarked (decimal answer ∷ nodeField r answer node ∷ moveFields moves) =
     (decimal-unmarked answer, (node-unmarked r answer node, moved)) in
-    joined-unmarked (decimal n) _ (decimal-unmarked n) (letter-unmarked r, (decimal-unmarked (who r), (size-unmarked r, reported)))
+    joined-unmarked (decimal n) _ (decimal-unmarked n) (letter-unmarked r, (who-unmarked r named, (size-unmarked r, reported)))
 
 pub lines-unmarked : (n : ℕ) (rs : List Record) (os : List Outcome) → Unmarked (linesAfter n rs os)
 unfolding linesAfter
 lines-unmarked n [] os = tt
 lines-unmarked n (r ∷ rs) [] = tt
 lines-unmarked n (r ∷ rs) (o ∷ os) =
-    unmarked-both (lineOf (n + 1) r (o .answer) (o .node) (o .moves)) (linesAfter (n + 1) rs os)
-    (line-unmarked (n + 1) r (o .answer) (o .node) (o .moves)) (lines-unmarked (n + 1) rs os)
+    unmarked-both (lineWith (n + 1) r o) (linesAfter (n + 1) rs os)
+    (line-unmarked (n + 1) r (o .answer) (o .node) (o .named) (o .moves)) (lines-unmarked (n + 1) rs os)

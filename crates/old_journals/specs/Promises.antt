@@ -1,6 +1,7 @@
 -- When an old journal is converted, and what its conversion is answered. Document 02, L4, with the repeated grant of L6.
 use mathlib.Core.Path.{_≡_}
 use mathlib.Core.List.{List, [], _∷_, _++_, map}
+use mathlib.Core.Option.{none}
 use Prim.Native.Nat.{ℕ, _<_}
 use lib.ListN.{length}
 use Rattle.journal.specs.declared.Record.{Record}
@@ -14,9 +15,11 @@ use Rattle.conversion.specs.declared.Conversion.{Conversion}
 use Rattle.conversion.specs.Conversion.{converted, convertedJournal, judged}
 use Rattle.tree.specs.Node.{level}
 use Rattle.table.specs.Table.{nodeAt}
-use Rattle.calls.specs.Call.{Call, tenantOf}
-use Rattle.calls.specs.Step.{Outcome, refused, repeated}
+use Rattle.calls.specs.Call.{Call as Direct, tenantOf}
+use Rattle.calls.specs.Step.{repeated}
 use Rattle.calls.specs.Demand.{Asks}
+use Rattle.admission.specs.Call.{State, Call, direct}
+use Rattle.admission.specs.Step.{Outcome, refused, with-line}
 use Rattle.histories.specs.Listing.{callsOf, Opens, reported, openLine, linesAfter}
 use Rattle.old_journals.specs.Former.{formerReports, formerListing}
 
@@ -41,12 +44,13 @@ RefusedAsListed = (journal : List ℕ) → AsListed journal (judged journal)
 
 -- what the call c of a converted record is answered, beside what the old record was
 pub data AnsweredSince (h : ℕ) (c : Call) (old new : Outcome) : Type 0 where
-  -- the same answer, node, moves and table
+  -- the same answer, node, named tenant, moves, table and line
   as-then : new ≡ old → AnsweredSince h c old new
-  -- or c is a repeated grant (document 02, L6), to a tenant that holds a block of just its level in the table T: it was refused with 8, and is
-  -- answered 0 and the tenant's node; nobody moves and the table stays, as then
-  repeated-now : (T : List ℕ) (l : ℕ) → Asks h c l → 0 < nodeAt T (tenantOf c) → level h (nodeAt T (tenantOf c)) ≡ l
-      → old ≡ refused 8 T → new ≡ repeated T (nodeAt T (tenantOf c)) → AnsweredSince h c old new
+  -- or c is a repeated grant (document 02, L6), to a tenant that holds a block of just its level in the state S: it was refused with 8, and is
+  -- answered 0 and the tenant's node; nobody moves, nobody in line is passed, and table and line stay, as then
+  repeated-now : (S : State) (d : Direct) (l : ℕ) → c ≡ direct d → Asks h d l → 0 < nodeAt (S .table) (tenantOf d)
+      → level h (nodeAt (S .table) (tenantOf d)) ≡ l → old ≡ refused 8 S
+      → new ≡ with-line (repeated (S .table) (nodeAt (S .table) (tenantOf d))) none (S .line) → AnsweredSince h c old new
 
 -- all calls of converted records, one by one
 pub data AllAnsweredSince (h : ℕ) : List Call → List Outcome → List Outcome → Type 0 where
@@ -62,7 +66,8 @@ pub data LineAlike : Record → List ℕ → List ℕ → Type 0 where
   -- every other record has the same line
   same-line : {r : Record} (line : List ℕ) → ((tenant : ℕ) → ¬ (r ≡ Record.GrantPages tenant 0)) → LineAlike r line line
   -- but a repeated grant has 0 and a node for 8
-  repeated-line : {r : Record} (ordinal node : ℕ) → 0 < node → LineAlike r (lineOf ordinal r 8 0 []) (lineOf ordinal (converted r) 0 node [])
+  repeated-line : {r : Record} (ordinal node : ℕ) → 0 < node
+      → LineAlike r (lineOf ordinal r 8 0 none []) (lineOf ordinal (converted r) 0 node none [])
 
 -- the lines of records, one by one
 pub data LinesAlike : List Record → List ℕ → List ℕ → Type 0 where

@@ -1,5 +1,7 @@
 pub mod ByValue
 pub mod Front
+pub mod Moves
 pub mod OwnList
 pub mod Performing
+pub mod Requests
 pub mod Walk

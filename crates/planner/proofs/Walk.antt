@@ -48,7 +48,7 @@ word = tyInt w64
 pub plan-length : (p : Plan) → Is P.the-row p (LL.vals P.the-type P′.the-laws p) → length (p .moves) ≡ 7
 plan-length p is = sym (length-map (p .moves) _) ∙ LL.owed P.the-type P′.the-laws p _ is .1 .0 .1 .0 .1
 
--- a lent table, and a lent list of moves
+-- a lent table or line, and a lent list of moves
 abbrev pub entries : Lifetime → Ty
 entries ℓ = sliceTy (tyRef ℓ mut (tyInt w16))
 

@@ -1,50 +1,86 @@
-// The reserve's calls over a lent table and a lent list of moves.
+// The reserve's calls over a lent table, a lent line and a lent list of moves.
 ghost use mathlib.Core.Path.{_≡_};
 ghost use mathlib.Core.List.{_++_};
 ghost use Prim.Native.Nat.{_≤_, _<_};
 ghost use lib.ListN.{length, getD, drop};
 ghost use Rattle.table.specs.Plan.{movesIn, no-move};
-ghost use Rattle.calls.specs.Step.{step};
-ghost use Rattle.calls.specs.Value.{callOf, Gives};
-ghost use Rattle.planner.specs.Performed.{Performed};
+ghost use Rattle.admission.specs.Step.{step};
+ghost use Rattle.admission.specs.Value.{lent, GivesAdmitted};
+ghost use Rattle.planner.specs.Performed.{requested, leastEntries, Performed};
+use admission::Admitted;
 use calls::Answer;
 use calls::Call;
-use calls::Called;
+use line::Named;
 use table::Move;
 use table::plan::Plan;
 
-// What a call reports: its answer, and how many moves stand in the list.
+// A call that may move tenants: one that names its own tenant's block, or an admit.
+pub enum Request {
+    Direct { call: Call },
+    Admit,
+}
+
+impl Request {
+    // The fewest move entries that it takes.
+    fn least_entries(self) -> usize
+        ensures { λ r. ⌜ r ≡ leastEntries self ⌝ }
+    {
+        match self {
+            Request::Direct { call } => call.least_entries(),
+            Request::Admit => 4,
+        }
+    }
+}
+
+// What a call reports: its answer, whom an admit granted, and how many moves stand in the list.
 pub struct Report {
     pub answer: Answer,
+    pub named: Named,
     pub moves: usize,
 }
 
 // Runs a call, and puts its moves at the front of the lent list.
-pub fn perform(height: u16, table: &mut [u16], moves: &mut [Move], call: Call) -> Report
-    ensures { λ r. ⌜ Performed height call (now (table .entry)) (now (moves .entry)) r (now (table .exit)) (now (moves .exit)) ⌝ }
+pub fn perform(
+    height: u16,
+    table: &mut [u16],
+    line: &mut [u16],
+    moves: &mut [Move],
+    request: Request,
+) -> Report
+    ensures { λ r. ⌜ Performed height request (now (table .entry)) (now (line .entry)) (now (moves .entry))
+        r (now (table .exit)) (now (line .exit)) (now (moves .exit)) ⌝ }
 {
-    let called = calls::run(height, table, moves.len(), call);
-    let plan = called.plan;
+    let admitted = run(height, table, line, moves.len(), request);
+    let plan = admitted.plan;
     fill(plan, moves);
     Report {
-        answer: called.answer,
+        answer: admitted.answer,
+        named: admitted.named,
         moves: plan.n,
     }
 }
 
 // Runs a call on a list of so many entries, and hands its moves back by value: for callers that lend no list.
-pub fn perform_by_value(height: u16, table: &mut [u16], entries: usize, call: Call) -> Called
-    ensures { λ r. ⌜ Gives (step height (now (table .entry)) (callOf call entries)) r (now (table .exit)) ⌝ }
+pub fn perform_by_value(
+    height: u16,
+    table: &mut [u16],
+    line: &mut [u16],
+    entries: usize,
+    request: Request,
+) -> Admitted
+    ensures { λ r. ⌜ GivesAdmitted (step height (lent (now (table .entry)) (now (line .entry))) (requested request entries))
+        r (now (table .exit)) (now (line .exit)) ⌝ }
 {
-    if entries < call.least_entries() {
-        return calls::run(height, table, entries, call);
+    if entries < request.least_entries() {
+        return run(height, table, line, entries, request);
     }
-    perform_on_seven(height, table, call)
+    perform_on_seven(height, table, line, request)
 }
 
 // Runs a call on a list of its own, of seven entries, which are enough for any call, and hands its moves back by value.
-fn perform_on_seven(height: u16, table: &mut [u16], call: Call) -> Called
-    ensures { λ r. ⌜ Gives (step height (now (table .entry)) (callOf call 7)) r (now (table .exit)) ⌝ }
+fn perform_on_seven(height: u16, table: &mut [u16], line: &mut [u16], request: Request) -> Admitted
+    ensures { λ r. ⌜ GivesAdmitted (step height (lent (now (table .entry)) (now (line .entry))) (requested request 7))
+        r (now (table .exit)) (now (line .exit)) ⌝ }
 {
     let unused = Move {
         tenant: 0,
@@ -53,13 +89,40 @@ fn perform_on_seven(height: u16, table: &mut [u16], call: Call) -> Called
         staged: 0,
     };
     let mut list = [unused; 7];
-    let report = perform(height, table, &mut list, call);
-    Called {
+    let report = perform(height, table, line, &mut list, request);
+    Admitted {
         answer: report.answer,
+        named: report.named,
         plan: Plan {
             n: report.moves,
             moves: list,
         },
+    }
+}
+
+// Runs a call of either kind; one that names its own tenant's block names nobody.
+fn run(
+    height: u16,
+    table: &mut [u16],
+    line: &mut [u16],
+    entries: usize,
+    request: Request,
+) -> Admitted
+    ensures { λ r. ⌜ GivesAdmitted (step height (lent (now (table .entry)) (now (line .entry))) (requested request entries))
+        r (now (table .exit)) (now (line .exit)) ⌝ }
+{
+    match request {
+        Request::Direct { call } => {
+            let called = admission::run(height, table, line, entries, call);
+            let answer = called.answer;
+            let plan = called.plan;
+            Admitted {
+                answer,
+                named: Named::Nobody,
+                plan,
+            }
+        }
+        Request::Admit => admission::admit(height, table, line, entries),
     }
 }
 

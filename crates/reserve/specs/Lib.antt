@@ -1,3 +1,4 @@
 pub mod Door
+pub mod Values
 pub mod Records
 pub mod NodePages

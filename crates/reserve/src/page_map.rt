@@ -20,7 +20,7 @@ pub extern "C" fn reserve_draw(height: u16, table: &[u8], map: &mut [u8]) -> u16
     ensures { λ r. ⌜ drawing r (now (map .exit)) ≡ drawn height (tableOf (now (table .entry))) (now (map .entry)) ⌝ }
 {
     let mut nodes = [0u16; TENANTS];
-    let n = decode(table, &mut nodes);
+    let n = decode(table, &mut nodes[..]);
     pagemap::draw(height, &nodes[..n], map)
 }
 

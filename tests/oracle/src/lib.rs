@@ -6,7 +6,7 @@
 //! - [`definitions`] has the words about sets of nodes (legal, dense, safe, ...) exactly as they are defined, and for
 //!   small trees every set there is; [`occupancy`] has the words for tall trees, where nodes are counted beforehand;
 //! - [`lifting`] builds the safe layout of any counts on a [`row`] of labelled pages, by the lifting rule;
-//! - [`planner`] has the calls with their refusals and pairing, [`carrying`] tries all lists of their moves,
+//! - [`planner`] has the calls with their refusals and pairing, [`line`] those who wait, [`carrying`] tries all lists of moves,
 //!   [`page_map`] has the map, [`journal`] and [`listing`] the journal, [`convert`] turns an old one over;
 //! - [`book`] and [`audit`] state what every planner owes its callers without planning anything themselves, and
 //!   [`runtime`] carries out the moves;
@@ -34,6 +34,7 @@ pub mod definitions;
 pub mod generate;
 pub mod journal;
 pub mod lifting;
+pub mod line;
 pub mod listing;
 pub mod occupancy;
 pub mod page_map;

@@ -16,7 +16,7 @@ pub fn of_node(height: u32, node: Node) -> Result<Range<usize>, Refusal> {
     }
     let tree = Tree::new(height);
     if !tree.nodes().contains(&node) {
-        return Err(Refusal::Table);
+        return Err(Refusal::Disorder);
     }
     Ok(tree.pages(node))
 }

@@ -1,17 +1,20 @@
-//! The sixteen numbered refusals.
+//! The numbered refusals.
 
 /// Why a call was turned down. The discriminants are the numbers that callers see; 0 is kept for "done".
 #[derive(Clone, Copy, Debug, PartialEq, Eq, PartialOrd, Ord, Hash)]
 #[repr(u8)]
 pub enum Refusal {
     Height = 1,
-    TableLength = 2,
+    /// Of the table or of the line.
+    Length = 2,
     MoveEntries = 3,
     Tenant = 4,
     Level = 5,
     Pages = 6,
-    Table = 7,
+    /// The table or the line is not in order.
+    Disorder = 7,
     HoldsAlready = 8,
+    /// A release or a growth of a tenant that holds no block, and a withdrawal of one that does not wait.
     HoldsNothing = 9,
     NoRoom = 10,
     NoOpening = 11,
@@ -20,6 +23,8 @@ pub enum Refusal {
     OpenAgain = 14,
     TooSmall = 15,
     TooLong = 16,
+    LineFull = 17,
+    Waits = 18,
 }
 
 /// The answer of a call that was carried out.

@@ -9,6 +9,7 @@
 use crate::carrying::Move;
 use crate::definitions::Node;
 use crate::journal::{self, Reading, Record};
+use crate::line::LINE_NUMBERS;
 use crate::listing;
 use crate::page_map;
 use crate::planner::{self, Lent, Request, FEWEST_ENTRIES, FEWEST_ENTRIES_TO_GROW, TENANTS};
@@ -17,10 +18,13 @@ use crate::refusal::{self, DONE};
 /// The only length of a table's image.
 pub const TABLE_BYTES: usize = 2 * TENANTS;
 
+/// The only length of a line's image.
+pub const LINE_BYTES: usize = 2 * LINE_NUMBERS;
+
 /// The length of one move's image.
 pub const MOVE_BYTES: usize = 8;
 
-/// The length of the shortest list of moves that a grant or a release takes, and a growth.
+/// The length of the shortest list of moves that a grant, a release or an admit takes, and a growth.
 pub const FEWEST_MOVE_BYTES: usize = FEWEST_ENTRIES * MOVE_BYTES;
 pub const FEWEST_MOVE_BYTES_TO_GROW: usize = FEWEST_ENTRIES_TO_GROW * MOVE_BYTES;
 
@@ -29,13 +33,35 @@ pub fn fewest_move_bytes(request: Request) -> usize {
     request.fewest_entries() * MOVE_BYTES
 }
 
+/// The tenant in the reply of an admit that grants nobody anything, or is refused.
+pub const NOBODY: u32 = u16::MAX as u32;
+
 /// What a planning call reports besides what it writes.
 #[derive(Clone, Copy, Debug, PartialEq, Eq)]
 pub struct Reply {
     pub answer: u32,
+    /// Whom an admit has granted a block, or [`NOBODY`], which stands in the replies of all other calls.
+    pub tenant: u32,
     pub node: u32,
     /// How many moves stand in the lent list.
     pub moves: u32,
+}
+
+impl Reply {
+    /// The reply of a call that answers a number and nothing else.
+    pub fn number(answer: u32) -> Self {
+        Reply {
+            answer,
+            tenant: NOBODY,
+            node: 0,
+            moves: 0,
+        }
+    }
+
+    /// Whom an admit has granted a block.
+    pub fn admitted(&self) -> Option<u32> {
+        (self.tenant != NOBODY).then_some(self.tenant)
+    }
 }
 
 /// Which pages a node covers.
@@ -75,15 +101,40 @@ pub trait Subject {
     }
 
     /// Opens a reserve and gives the number answered.
-    fn open(&mut self, height: u32, table: &mut [u8]) -> u32;
+    fn open(&mut self, height: u32, table: &mut [u8], line: &mut [u8]) -> u32;
 
-    fn grant_level(&mut self, height: u32, table: &mut [u8], moves: &mut [u8], tenant: u32, level: u32) -> Reply;
+    fn grant_level(
+        &mut self,
+        height: u32,
+        table: &mut [u8],
+        line: &mut [u8],
+        moves: &mut [u8],
+        tenant: u32,
+        level: u32,
+    ) -> Reply;
 
-    fn grant_pages(&mut self, height: u32, table: &mut [u8], moves: &mut [u8], tenant: u32, pages: u32) -> Reply;
+    fn grant_pages(
+        &mut self,
+        height: u32,
+        table: &mut [u8],
+        line: &mut [u8],
+        moves: &mut [u8],
+        tenant: u32,
+        pages: u32,
+    ) -> Reply;
 
     fn release(&mut self, height: u32, table: &mut [u8], moves: &mut [u8], tenant: u32) -> Reply;
 
     fn grow(&mut self, height: u32, table: &mut [u8], moves: &mut [u8], tenant: u32, level: u32) -> Reply;
+
+    /// Has a tenant wait for a block of a level and gives the number answered.
+    fn join(&mut self, height: u32, table: &[u8], line: &mut [u8], tenant: u32, level: u32) -> u32;
+
+    /// Grants the first in line a block who may have one.
+    fn admit(&mut self, height: u32, table: &mut [u8], line: &mut [u8], moves: &mut [u8]) -> Reply;
+
+    /// Has a tenant wait no longer and gives the number answered.
+    fn withdraw(&mut self, height: u32, table: &[u8], line: &mut [u8], tenant: u32) -> u32;
 
     /// Which pages a node covers in a reserve of a height; any number may be asked.
     fn node_pages(&mut self, height: u32, node: Node) -> Pages;
@@ -103,32 +154,68 @@ pub trait Subject {
     fn list(&mut self, journal: &[u8]) -> Vec<u8>;
 }
 
+/// What is lent to a planning call. Which of it is handed over, the call decides.
+#[derive(Debug)]
+pub struct Images<'a> {
+    pub height: u32,
+    pub table: &'a mut [u8],
+    pub line: &'a mut [u8],
+    pub moves: &'a mut [u8],
+}
+
 /// Hands a request to the method it belongs to.
-pub fn ask(subject: &mut dyn Subject, height: u32, table: &mut [u8], moves: &mut [u8], request: Request) -> Reply {
+pub fn ask(subject: &mut dyn Subject, lent: &mut Images, request: Request) -> Reply {
+    let Images {
+        height,
+        table,
+        line,
+        moves,
+    } = lent;
     match request {
-        Request::GrantLevel { tenant, level } => subject.grant_level(height, table, moves, tenant, level),
-        Request::GrantPages { tenant, pages } => subject.grant_pages(height, table, moves, tenant, pages),
-        Request::Release { tenant } => subject.release(height, table, moves, tenant),
-        Request::Grow { tenant, level } => subject.grow(height, table, moves, tenant, level),
+        Request::GrantLevel { tenant, level } => subject.grant_level(*height, table, line, moves, tenant, level),
+        Request::GrantPages { tenant, pages } => subject.grant_pages(*height, table, line, moves, tenant, pages),
+        Request::Release { tenant } => subject.release(*height, table, moves, tenant),
+        Request::Grow { tenant, level } => subject.grow(*height, table, moves, tenant, level),
+        Request::Join { tenant, level } => Reply::number(subject.join(*height, table, line, tenant, level)),
+        Request::Admit => subject.admit(*height, table, line, moves),
+        Request::Withdraw { tenant } => Reply::number(subject.withdraw(*height, table, line, tenant)),
     }
 }
 
 /// A table's image.
 pub fn table_image(table: &[Node]) -> Vec<u8> {
-    let mut image = vec![0; 2 * table.len()];
-    for (bytes, node) in image.as_chunks_mut().0.iter_mut().zip(table) {
-        *bytes = node.to_le_bytes();
-    }
-    image
+    image(table)
 }
 
 /// The table that an image stands for. An image of another length stands for none; it becomes a table without
 /// entries, which no call takes either.
 pub fn table_from(image: &[u8]) -> Vec<Node> {
-    if image.len() != TABLE_BYTES {
+    numbers_from(image, TABLE_BYTES)
+}
+
+/// The image of a line's numbers.
+pub fn line_image(line: &[u16]) -> Vec<u8> {
+    image(line)
+}
+
+/// The numbers of a line that an image stands for, if it has the right length.
+pub fn line_from(image: &[u8]) -> Vec<u16> {
+    numbers_from(image, LINE_BYTES)
+}
+
+fn image(numbers: &[u16]) -> Vec<u8> {
+    let mut image = vec![0; 2 * numbers.len()];
+    for (bytes, number) in image.as_chunks_mut().0.iter_mut().zip(numbers) {
+        *bytes = number.to_le_bytes();
+    }
+    image
+}
+
+fn numbers_from(image: &[u8], length: usize) -> Vec<u16> {
+    if image.len() != length {
         return Vec::new();
     }
-    image.as_chunks().0.iter().copied().map(Node::from_le_bytes).collect()
+    image.as_chunks().0.iter().copied().map(u16::from_le_bytes).collect()
 }
 
 /// The first so many moves of a list's image; fewer if the list is not that long.
@@ -159,48 +246,125 @@ pub fn put_moves(moves: &[Move], image: &mut [u8]) {
 pub struct Oracle;
 
 impl Oracle {
-    fn plan(height: u32, table: &mut [u8], moves: &mut [u8], request: Request) -> Reply {
-        let lent = Lent {
-            height,
-            table: &table_from(table),
-            entries: moves.len() / MOVE_BYTES,
-        };
-        let outcome = planner::call(lent, request);
+    fn plan(lent: Images, request: Request) -> Reply {
+        let outcome = planner::call(
+            Lent {
+                height: lent.height,
+                table: &table_from(lent.table),
+                line: &line_from(lent.line),
+                entries: lent.moves.len() / MOVE_BYTES,
+            },
+            request,
+        );
         if outcome.answer == DONE {
-            table.copy_from_slice(&table_image(&outcome.table));
-            put_moves(&outcome.moves, moves);
+            lent.table.copy_from_slice(&table_image(&outcome.table));
+            lent.line.copy_from_slice(&line_image(&outcome.line));
+            put_moves(&outcome.moves, lent.moves);
         }
         Reply {
             answer: outcome.answer,
+            tenant: outcome.admitted.map_or(NOBODY, u32::from),
             node: outcome.node.into(),
             moves: outcome.moves.len() as u32,
         }
     }
+
+    /// A join or a withdrawal, which changes the line alone.
+    fn stand(height: u32, table: &[u8], line: &mut [u8], request: Request) -> u32 {
+        let lent = Images {
+            height,
+            table: &mut table.to_vec(),
+            line,
+            moves: &mut [],
+        };
+        Oracle::plan(lent, request).answer
+    }
 }
 
 impl Subject for Oracle {
-    fn open(&mut self, height: u32, table: &mut [u8]) -> u32 {
-        let outcome = planner::open(height, &table_from(table));
+    fn open(&mut self, height: u32, table: &mut [u8], line: &mut [u8]) -> u32 {
+        let outcome = planner::open(height, &table_from(table), &line_from(line));
         if outcome.answer == DONE {
             table.copy_from_slice(&table_image(&outcome.table));
+            line.copy_from_slice(&line_image(&outcome.line));
         }
         outcome.answer
     }
 
-    fn grant_level(&mut self, height: u32, table: &mut [u8], moves: &mut [u8], tenant: u32, level: u32) -> Reply {
-        Oracle::plan(height, table, moves, Request::GrantLevel { tenant, level })
+    fn grant_level(
+        &mut self,
+        height: u32,
+        table: &mut [u8],
+        line: &mut [u8],
+        moves: &mut [u8],
+        tenant: u32,
+        level: u32,
+    ) -> Reply {
+        let lent = Images {
+            height,
+            table,
+            line,
+            moves,
+        };
+        Oracle::plan(lent, Request::GrantLevel { tenant, level })
     }
 
-    fn grant_pages(&mut self, height: u32, table: &mut [u8], moves: &mut [u8], tenant: u32, pages: u32) -> Reply {
-        Oracle::plan(height, table, moves, Request::GrantPages { tenant, pages })
+    fn grant_pages(
+        &mut self,
+        height: u32,
+        table: &mut [u8],
+        line: &mut [u8],
+        moves: &mut [u8],
+        tenant: u32,
+        pages: u32,
+    ) -> Reply {
+        let lent = Images {
+            height,
+            table,
+            line,
+            moves,
+        };
+        Oracle::plan(lent, Request::GrantPages { tenant, pages })
     }
 
     fn release(&mut self, height: u32, table: &mut [u8], moves: &mut [u8], tenant: u32) -> Reply {
-        Oracle::plan(height, table, moves, Request::Release { tenant })
+        let line = &mut [];
+        let lent = Images {
+            height,
+            table,
+            line,
+            moves,
+        };
+        Oracle::plan(lent, Request::Release { tenant })
     }
 
     fn grow(&mut self, height: u32, table: &mut [u8], moves: &mut [u8], tenant: u32, level: u32) -> Reply {
-        Oracle::plan(height, table, moves, Request::Grow { tenant, level })
+        let line = &mut [];
+        let lent = Images {
+            height,
+            table,
+            line,
+            moves,
+        };
+        Oracle::plan(lent, Request::Grow { tenant, level })
+    }
+
+    fn join(&mut self, height: u32, table: &[u8], line: &mut [u8], tenant: u32, level: u32) -> u32 {
+        Oracle::stand(height, table, line, Request::Join { tenant, level })
+    }
+
+    fn admit(&mut self, height: u32, table: &mut [u8], line: &mut [u8], moves: &mut [u8]) -> Reply {
+        let lent = Images {
+            height,
+            table,
+            line,
+            moves,
+        };
+        Oracle::plan(lent, Request::Admit)
+    }
+
+    fn withdraw(&mut self, height: u32, table: &[u8], line: &mut [u8], tenant: u32) -> u32 {
+        Oracle::stand(height, table, line, Request::Withdraw { tenant })
     }
 
     fn node_pages(&mut self, height: u32, node: Node) -> Pages {

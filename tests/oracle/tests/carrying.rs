@@ -9,6 +9,7 @@ use made_up::MadeUp;
 use oracle::carrying::{Change, Move};
 use oracle::definitions::{Node, Tree};
 use oracle::generate::{growths, holders_for, seat};
+use oracle::line;
 use oracle::planner::{self, Lent, Request, TENANTS};
 use oracle::random::Random;
 use oracle::refusal::DONE;
@@ -35,6 +36,7 @@ fn every_change(mut each: impl FnMut(Request, &Change)) {
             let lent = Lent {
                 height: tree.height(),
                 table: &table,
+                line: &line::EMPTY,
                 entries: request.fewest_entries(),
             };
             let outcome = planner::call(lent, request);
@@ -68,6 +70,7 @@ fn small_reserves_stage_two_tenants_at_most_and_those_for_a_growth() {
             Request::GrantLevel { .. } | Request::GrantPages { .. } => &mut grants,
             Request::Release { .. } => &mut releases,
             Request::Grow { .. } => &mut growths,
+            _ => panic!("{request:?} is none of these"),
         };
         *calls.entry((list.len(), staged(&list))).or_default() += 1;
     });

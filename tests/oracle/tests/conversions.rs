@@ -171,6 +171,8 @@ enum Fault {
     RefusedGrantsLeftOut,
     GrowthsLeftOut,
     GrowthsBecomeGrants,
+    AdmitsLeftOut,
+    JoinsBecomeGrants,
     // In what is refused.
     FrontWrittenBeforeTheRefusal,
     FrontKeptWithoutARefusal,
@@ -179,6 +181,7 @@ enum Fault {
     EmptyTaken,
     LongJournalTaken,
     GrowthsUnknown,
+    WithdrawalsUnknown,
     NothingSaid,
     SaidOnStandardOutput,
     OffsetInTheConverted,
@@ -186,7 +189,7 @@ enum Fault {
 }
 
 impl Fault {
-    const ALL: [Fault; 21] = [
+    const ALL: [Fault; 24] = [
         Fault::NothingConverted,
         Fault::OnePageToo,
         Fault::LowByteOfThePagesAlone,
@@ -197,6 +200,8 @@ impl Fault {
         Fault::RefusedGrantsLeftOut,
         Fault::GrowthsLeftOut,
         Fault::GrowthsBecomeGrants,
+        Fault::AdmitsLeftOut,
+        Fault::JoinsBecomeGrants,
         Fault::FrontWrittenBeforeTheRefusal,
         Fault::FrontKeptWithoutARefusal,
         Fault::RefusedLinesRefuseAll,
@@ -204,6 +209,7 @@ impl Fault {
         Fault::EmptyTaken,
         Fault::LongJournalTaken,
         Fault::GrowthsUnknown,
+        Fault::WithdrawalsUnknown,
         Fault::NothingSaid,
         Fault::SaidOnStandardOutput,
         Fault::OffsetInTheConverted,
@@ -220,7 +226,9 @@ impl Fault {
             let (tenant, pages) = match (self, record) {
                 (_, Record::GrantPages { tenant, pages }) => (tenant, pages),
                 (Fault::GrowthsLeftOut, Record::Grow { .. }) => return Vec::new(),
-                (Fault::GrowthsBecomeGrants, Record::Grow { tenant, level }) => {
+                (Fault::AdmitsLeftOut, Record::Admit) => return Vec::new(),
+                (Fault::GrowthsBecomeGrants, Record::Grow { tenant, level })
+                | (Fault::JoinsBecomeGrants, Record::Join { tenant, level }) => {
                     return Record::GrantLevel { tenant, level }.bytes();
                 }
                 _ => return record.bytes(),
@@ -251,15 +259,27 @@ impl Fault {
             .collect()
     }
 
+    /// The offset of the first record of a kind that is taken for unknown.
+    fn first_unknown(self, journal: &[u8]) -> Option<usize> {
+        let is_unknown = |record: &Record| match self {
+            Fault::GrowthsUnknown => matches!(record, Record::Grow { .. }),
+            Fault::WithdrawalsUnknown => matches!(record, Record::Withdraw { .. }),
+            _ => false,
+        };
+        let records = records(journal);
+        let place = records.iter().position(is_unknown)?;
+        Some(records[..place].iter().map(|record| record.bytes().len()).sum())
+    }
+
     fn left(self, journal: &[u8]) -> Left {
         let due = Left::due(journal);
         match convert(journal) {
             Ok(_) if self == Fault::RefusedLinesRefuseAll && has_refused_lines(journal) => {
                 Left::refused(Stop { number: 9, offset: 0 })
             }
-            Ok(_) => match (self, first_growth(journal)) {
-                (Fault::GrowthsUnknown, Some(offset)) => Left::refused(Stop { number: 12, offset }),
-                _ => Left::converted(self.out(journal)),
+            Ok(_) => match self.first_unknown(journal) {
+                Some(offset) => Left::refused(Stop { number: 12, offset }),
+                None => Left::converted(self.out(journal)),
             },
             Err(stop) => {
                 let front = || convert(&journal[..stop.offset]).unwrap_or_default();
@@ -288,15 +308,6 @@ impl Fault {
             }
         }
     }
-}
-
-/// The offset of the first growth.
-fn first_growth(journal: &[u8]) -> Option<usize> {
-    let records = records(journal);
-    let place = records
-        .iter()
-        .position(|record| matches!(record, Record::Grow { .. }))?;
-    Some(records[..place].iter().map(|record| record.bytes().len()).sum())
 }
 
 fn has_refused_lines(journal: &[u8]) -> bool {

@@ -3,15 +3,19 @@
 mod faulty;
 mod made_up;
 
+use std::fmt::Debug;
+
 use faulty::growths::GrowthFault;
 use faulty::lists::{ListFault, Tables};
 use faulty::repeats::RepeatFault;
+use faulty::waiting::{Impatient, WaitingFault};
 use faulty::{Fault, Faulty, Narrow, ThirdOfItsSize};
 use made_up::MadeUp;
 use oracle::carrying::Move;
-use oracle::compare::{first_finding, run, same_history, Amounts, Tally};
+use oracle::compare::{first_finding, run, same_history, shortened, Amounts, Tally};
 use oracle::definitions::{Node, Tree};
 use oracle::generate::{history, History};
+use oracle::planner::Request;
 use oracle::random::Random;
 use oracle::runtime::{carry_out, staged_come_last};
 use oracle::shrink::shorten;
@@ -27,7 +31,7 @@ fn reported(subject: &mut dyn Subject, amounts: &Amounts) -> (Tally, String) {
 #[test]
 fn the_second_planner_agrees_with_itself() {
     let (tally, report) = reported(&mut Oracle, &Amounts::quick(21));
-    assert_eq!(tally, Tally { passed: 17, failed: 0 }, "{report}");
+    assert_eq!(tally, Tally { passed: 22, failed: 0 }, "{report}");
     assert!(
         report.lines().all(|line| line.ends_with("comparisons, seed 21")),
         "{report}"
@@ -35,9 +39,9 @@ fn the_second_planner_agrees_with_itself() {
 }
 
 /// Each mistake is found by one of the named parts.
-fn assert_found(faults: &[Fault], parts: &[&str]) {
+fn assert_found<F: Copy + Debug, S: Subject>(faults: &[F], parts: &[&str], with: fn(F) -> S) {
     for &fault in faults {
-        let (part, finding) = first_finding(&mut Faulty(fault), &Amounts::quick(22), parts)
+        let (part, finding) = first_finding(&mut with(fault), &Amounts::quick(22), parts)
             .unwrap_or_else(|| panic!("{fault:?} was not found"));
         println!("{fault:?}: {part}\n{finding}\n");
     }
@@ -45,18 +49,18 @@ fn assert_found(faults: &[Fault], parts: &[&str]) {
 
 /// A test for each group of mistakes, with the parts that have to find them.
 macro_rules! found {
-    ($($(#[$words:meta])* $name:ident: $faults:expr, $parts:expr;)+) => {
+    ($with:expr, $($(#[$words:meta])* $name:ident: $faults:expr, $parts:expr;)+) => {
         $(
             $(#[$words])*
             #[test]
             fn $name() {
-                assert_found(&$faults, &$parts);
+                assert_found(&$faults, &$parts, $with);
             }
         )+
     };
 }
 
-found! {
+found! { Faulty,
     wrong_places_are_found: Fault::PLACES, ["every counts vector"];
     wrong_reports_are_found: Fault::REPORTS, ["every counts vector"];
     wrong_lists_are_found: ListFault::ON_RESERVES.map(Fault::List), ["every counts vector"];
@@ -86,17 +90,36 @@ found! {
     wrong_second_grants_are_found_in_histories: RepeatFault::OF_OTHER_LEVELS.map(Fault::Repeat), ["histories"];
 }
 
+found! { Impatient::new,
+    wrong_admissions_are_found: WaitingFault::CHOICES, ["every short line"];
+    wrong_lines_are_found: WaitingFault::LINES_LEFT, ["every short line"];
+    wrong_refusals_beside_a_line_are_found: WaitingFault::REFUSALS, ["every short line"];
+    wrong_admissions_are_found_in_histories: WaitingFault::CHOICES, ["histories"];
+    wrong_lines_are_found_in_histories: WaitingFault::LINES_LEFT, ["histories"];
+    wrong_refusals_beside_a_line_are_found_in_histories: WaitingFault::REFUSALS, ["histories"];
+    wrong_admissions_are_found_from_long_lines: WaitingFault::CHOICES, ["long lines"];
+    wrong_lines_with_many_in_them_are_found: WaitingFault::LINES_LEFT, ["long lines"];
+    mistakes_that_show_in_long_lines_are_found: WaitingFault::IN_HISTORIES, ["long lines"];
+    /// Where a large image waits, each of these mistakes lets it in too early or too late.
+    unfair_lines_are_found: WaitingFault::OF_LARGE_IMAGES, ["large images in line"];
+    spoilt_lines_that_are_taken_are_found: WaitingFault::OVERLOOKED, ["damaged lines"];
+    wrong_orders_of_refusals_are_found: WaitingFault::ORDERS, ["orders of refusals"];
+    wrong_lengths_of_lines_are_found: WaitingFault::LENGTHS, ["edges of the arguments"];
+}
+
 /// The driver respects how far a door reaches.
 #[test]
 fn no_number_is_handed_over_that_the_door_cannot_take() {
     let amounts = Amounts {
         tallest_for_all_counts: 2,
+        tallest_for_all_lines: 1,
         calls_in_histories: 4_000,
         full_reserves: 200,
+        long_lines: 52,
         ..Amounts::quick(25)
     };
     let (tally, report) = reported(&mut Narrow, &amounts);
-    assert_eq!(tally, Tally { passed: 17, failed: 0 }, "{report}");
+    assert_eq!(tally, Tally { passed: 22, failed: 0 }, "{report}");
 }
 
 #[test]
@@ -126,9 +149,11 @@ fn shortening_never_loses_the_failure() {
     }
 }
 
-/// With a growth there may be two blocks of a size after three calls, none of which can be left out.
-fn without_growths(mut history: History) -> History {
-    history.calls.retain(|call| !call.request.is_growth());
+/// With a growth or an admit there may be two blocks of a size after three calls, none of which can be left out.
+fn with_grants_and_releases_alone(mut history: History) -> History {
+    history
+        .calls
+        .retain(|call| call.request.is_grant() || matches!(call.request, Request::Release { .. }));
     history
 }
 
@@ -138,7 +163,7 @@ fn a_failing_history_is_shown_short() {
     let mut random = Random::new(23);
     let reach = Oracle.reach();
     let long = (0..)
-        .map(|_| without_growths(history(&mut random, reach, 6, 200).0))
+        .map(|_| with_grants_and_releases_alone(history(&mut random, reach, 6, 200).0))
         .find(|history| same_history(&mut ThirdOfItsSize, history).is_err_and(|failure| failure.call > 20))
         .expect("a history that fails late");
     let short = shorten(&long.calls, |calls| {
@@ -154,27 +179,46 @@ fn a_failing_history_is_shown_short() {
 fn a_finding_names_the_seed_and_the_calls() {
     let amounts = Amounts {
         tallest_for_all_counts: 0,
-        ..Amounts::quick(40)
+        tallest_for_all_lines: 0,
+        journals: 0,
+        damaged_lines: 0,
+        ..Amounts::quick(24)
     };
     let (tally, report) = reported(&mut ThirdOfItsSize, &amounts);
     assert!(tally.failed >= 2, "{report}");
     let part = report
-        .split("\nhistories: different, seed 40\n")
+        .split("\nhistories: different, seed 24\n")
         .nth(1)
         .expect("a finding");
-    let mut lines = part.lines();
-    // Two pages hold no three blocks of one page, so height 2 is the smallest tree for these.
-    assert_eq!(lines.next(), Some("  open height 2"), "{report}");
+    let lines: Vec<&str> = part.lines().collect();
+    assert!(lines[0].starts_with("  open height "), "{report}");
+    let calls = lines[1..]
+        .iter()
+        .take_while(|line| !line.starts_with("  call "))
+        .count();
+    assert!((3..=5).contains(&calls), "{report}");
     assert!(
-        lines.by_ref().take(3).all(|line| line.starts_with("  grant tenant ")),
+        lines[1 + calls].starts_with(&format!("  call {calls}: the reply is ")),
         "{report}"
     );
-    assert!(
-        lines
-            .next()
-            .is_some_and(|line| line.starts_with("  call 3: the reply is ")),
-        "{report}"
-    );
+}
+
+/// Two pages hold no three blocks of one page, so height 2 is the smallest tree for these.
+#[test]
+fn a_failing_history_is_shown_on_the_smallest_tree() {
+    let level = 0;
+    let grant = |tenant| Request::GrantLevel { tenant, level };
+    let between = [
+        Request::Join { tenant: 9, level },
+        Request::Admit,
+        Request::Release { tenant: 9 },
+    ];
+    let requests = [&[grant(5), grant(6)], &between[..], &[grant(7), grant(8)]].concat();
+    let long = History::of_requests(6, &requests);
+    let failure = same_history(&mut ThirdOfItsSize, &long).expect_err("a third of its size");
+    let short = shortened(&mut ThirdOfItsSize, &long, &failure);
+    let left: Vec<Request> = short.calls.iter().map(|call| call.request).collect();
+    assert_eq!((short.height, left), (2, vec![grant(5), grant(6), grant(7)]));
 }
 
 /// A list as it is told in a listing.

@@ -7,6 +7,7 @@ use std::collections::BTreeSet;
 use oracle::book::level_wanted;
 use oracle::definitions::{is_legal, Counts, Node, Tree};
 use oracle::generate::{growths, holders_for, seat};
+use oracle::line;
 use oracle::planner::{self, Lent, Outcome, Request};
 use oracle::random::Random;
 use oracle::refusal::{Refusal, DONE};
@@ -16,6 +17,7 @@ fn call(tree: Tree, table: &[Node], request: Request) -> Outcome {
     let lent = Lent {
         height: tree.height(),
         table,
+        line: &line::EMPTY,
         entries: request.fewest_entries(),
     };
     planner::call(lent, request)
@@ -44,7 +46,8 @@ fn no_room_where_no_legal_set_has_the_changed_sizes() {
             for request in growths(&table, tree.levels()) {
                 let wanted = level_wanted(tree, request).expect("a growth has a level");
                 let mut changed = *counts;
-                changed[tree.level(table[request.tenant() as usize]) as usize] -= 1;
+                let tenant = request.tenant().expect("a growth has a tenant");
+                changed[tree.level(table[tenant as usize]) as usize] -= 1;
                 changed[wanted as usize] += 1;
                 let due = if legal.contains(&changed) {
                     DONE
@@ -65,8 +68,9 @@ fn whoever_can_stay_stays_and_the_others_keep_their_order() {
         let table = seat(tree, &holders_for(&mut random, &counts));
         for request in growths(&table, tree.levels()) {
             let outcome = call(tree, &table, request);
+            let tenant = request.tenant().expect("a growth has a tenant");
             if outcome.answer == DONE {
-                pairs_as_told(tree, &table, &outcome, request.tenant() as usize);
+                pairs_as_told(tree, &table, &outcome, tenant as usize);
             }
         }
     }
@@ -114,7 +118,7 @@ fn a_growth_ends_in_the_places_of_a_release_and_a_grant() {
     for (tree, counts) in trees_with_counts(0..=5) {
         let table = seat(tree, &holders_for(&mut random, &counts));
         for request in growths(&table, tree.levels()) {
-            let tenant = request.tenant();
+            let tenant = request.tenant().expect("a growth has a tenant");
             let level = level_wanted(tree, request).expect("a growth has a level");
             let grown = call(tree, &table, request);
             let released = call(tree, &table, Request::Release { tenant }).table;

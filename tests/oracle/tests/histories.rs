@@ -5,9 +5,10 @@ mod small;
 use std::collections::{BTreeMap, BTreeSet};
 
 use oracle::audit::{audit, is_in_order, Seen, MOST_FOR_GRANT, MOST_FOR_RELEASE};
-use oracle::book::{occupied, Book};
+use oracle::book::{occupied, Book, Told};
 use oracle::definitions::{Node, Tree, TALLEST};
 use oracle::generate::{any_fill, growths, history, history_on_full, holders_for, seat, steer, Call, Damage, History};
+use oracle::line::{self, LINE_NUMBERS};
 use oracle::planner::{self, Lent, Outcome, Request, TENANTS};
 use oracle::random::Random;
 use oracle::subject::{Oracle, Reach, Subject, MOVE_BYTES};
@@ -17,28 +18,37 @@ fn reach() -> Reach {
     Oracle.reach()
 }
 
-/// Carries out a call on a table and checks it against all that can be known about it.
+/// Carries out a call on a table, and on the line that the book has, and checks it against all that can be known about it.
 fn checked_call(book: &mut Book, table: &[Node], call: &Call) -> Outcome {
     let tree = book.tree();
     let entries = call.move_bytes / MOVE_BYTES;
+    let waiting = book.line();
     let lent = Lent {
         height: tree.height(),
         table,
+        line: &line::numbers(&waiting),
         entries,
     };
     let outcome = planner::call(lent, call.request);
-    assert_eq!(outcome.answer, book.answer(call.request, entries), "{call}");
-    book.enter(call.request, outcome.answer);
+    let told = Told {
+        answer: outcome.answer,
+        admitted: outcome.admitted.map(u32::from),
+    };
+    assert_eq!(told, book.due(call.request, entries), "{call}");
+    book.enter(call.request, told);
     let seen = Seen {
         request: call.request,
         before: table,
         after: &outcome.table,
-        answer: outcome.answer,
+        waiting: &waiting,
+        answer: told.answer,
+        admitted: told.admitted,
         node: outcome.node,
         moves: &outcome.moves,
     };
-    audit(tree, &seen).unwrap_or_else(|finding| panic!("{call}: {finding}"));
-    book.audit(&outcome.table)
+    audit(tree, &seen)
+        .and_then(|()| book.audit(&outcome.table))
+        .and_then(|()| book.audit_line(&outcome.line))
         .unwrap_or_else(|finding| panic!("{call}: {finding}"));
     outcome
 }
@@ -51,6 +61,7 @@ struct Seldom {
     of_grant: Most,
     of_release: Most,
     of_growth: Most,
+    of_admit: Most,
     /// Grants to tenants that had the level already.
     repeated: usize,
     full: usize,
@@ -79,6 +90,8 @@ impl Seldom {
             Request::GrantLevel { .. } | Request::GrantPages { .. } => &mut self.of_grant,
             Request::Release { .. } => &mut self.of_release,
             Request::Grow { .. } => &mut self.of_growth,
+            Request::Admit => &mut self.of_admit,
+            Request::Join { .. } | Request::Withdraw { .. } => return,
         };
         most.note(outcome);
         self.full += usize::from(book.room() == 0);
@@ -87,11 +100,12 @@ impl Seldom {
 
 fn run(history: &History, seldom: &mut Seldom) -> Vec<Node> {
     let tree = Tree::new(history.height);
+    let start = history.start.clone().unwrap_or_default();
     let mut table = match &history.start {
-        None => planner::open(history.height, &[7; TENANTS]).table,
-        Some(holders) => seat(tree, holders),
+        None => planner::open(history.height, &[7; TENANTS], &[7; LINE_NUMBERS]).table,
+        Some(start) => seat(tree, &start.holders),
     };
-    let mut book = Book::of_table(tree, &table);
+    let mut book = start.book(tree);
     for call in &history.calls {
         let outcome = checked_call(&mut book, &table, call);
         seldom.note(&book, call, &table, &outcome);
@@ -145,11 +159,11 @@ fn large_histories_stay_safe() {
 /// Made-up histories are worth little if they never come near the edge.
 #[test]
 fn histories_reach_every_answer_and_the_most_moves() {
-    let mut trial = Trial::new(13);
+    let mut trial = Trial::new(113);
     (0..520).for_each(|round| trial.after_opening(round % (TALLEST + 1), 50));
     let seldom = trial.seldom;
     let total: usize = seldom.answers.values().sum();
-    for answer in [0, 3, 4, 5, 6, 8, 9, 10] {
+    for answer in [0, 3, 4, 5, 6, 8, 9, 10, 18] {
         let share = seldom.answers.get(&answer).copied().unwrap_or_default();
         assert!(share * 200 > total, "{answer} comes {share} times in {total}");
     }
@@ -160,6 +174,7 @@ fn histories_reach_every_answer_and_the_most_moves() {
     assert_eq!(seldom.of_grant, most(MOST_FOR_GRANT, 1));
     assert_eq!(seldom.of_release, most(MOST_FOR_RELEASE, 1));
     assert_eq!(seldom.of_growth, most(5, 2));
+    assert_eq!(seldom.of_admit, most(MOST_FOR_GRANT, 1));
 }
 
 /// Every counts vector up to height 5 with every grant, every release and every growth; the audit has the bounds on the moves.
@@ -172,7 +187,7 @@ fn every_call_up_to_height_5() {
     for (tree, counts) in trees_with_counts(0..=5) {
         let holders = holders_for(&mut random, &counts);
         let table = seat(tree, &holders);
-        let book = Book::of_table(tree, &table);
+        let book = Book::of_reserve(tree, &table, &[]);
         let moves = |request| {
             let call = Call::with_shortest_list(request);
             checked_call(&mut book.clone(), &table, &call).moves.len()
@@ -216,7 +231,7 @@ fn every_grant_to_a_holder_up_to_height_4() {
     for (tree, counts) in trees_with_counts(0..=4) {
         let holders = holders_for(&mut random, &counts);
         let table = seat(tree, &holders);
-        let book = Book::of_table(tree, &table);
+        let book = Book::of_reserve(tree, &table, &[]);
         for holder in &holders {
             let tenant = holder.tenant.into();
             let by_level = tree.levels().map(|level| Request::GrantLevel { tenant, level });
@@ -260,6 +275,7 @@ fn answer_of_release(tree: Tree, table: &[Node]) -> u32 {
     let lent = Lent {
         height: tree.height(),
         table,
+        line: &line::EMPTY,
         entries: 4,
     };
     planner::call(lent, Request::Release { tenant: 4095 }).answer

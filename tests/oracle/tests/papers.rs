@@ -6,12 +6,14 @@ use oracle::definitions::{is_free, is_legal, Counts, Node, Tree};
 use oracle::generate::{journal_of, MOST_MOVED};
 use oracle::journal::{self, Reading, Record, LONGEST};
 use oracle::lifting::layout;
+use oracle::line::{self, Waiting, LINE_NUMBERS, MOST_WAITING};
 use oracle::listing::list;
 use oracle::page_map::{self, MAP_BYTES};
 use oracle::planner::{self, Lent, Outcome, Request, Rules, TENANTS};
 use oracle::refusal::Refusal;
 use oracle::subject::{
-    moves_from, put_moves, Oracle, Subject, FEWEST_MOVE_BYTES, FEWEST_MOVE_BYTES_TO_GROW, MOVE_BYTES,
+    moves_from, put_moves, Oracle, Subject, FEWEST_MOVE_BYTES, FEWEST_MOVE_BYTES_TO_GROW, LINE_BYTES, MOVE_BYTES,
+    TABLE_BYTES,
 };
 
 /// Counts from those of the lowest levels.
@@ -35,8 +37,19 @@ fn table(nodes: &[Node]) -> Vec<Node> {
 }
 
 fn call(height: u32, table: &[Node], request: Request) -> Outcome {
+    call_beside(height, table, &line::EMPTY, request)
+}
+
+/// The same with a line.
+fn call_beside(height: u32, table: &[Node], line: &[u16], request: Request) -> Outcome {
     let entries = request.fewest_entries();
-    planner::call(Lent { height, table, entries }, request)
+    let lent = Lent {
+        height,
+        table,
+        line,
+        entries,
+    };
+    planner::call(lent, request)
 }
 
 fn grant(tenant: u32, level: u32) -> Request {
@@ -53,6 +66,23 @@ fn release(tenant: u32) -> Request {
 
 fn grow(tenant: u32, level: u32) -> Request {
     Request::Grow { tenant, level }
+}
+
+fn join(tenant: u32, level: u32) -> Request {
+    Request::Join { tenant, level }
+}
+
+fn withdraw(tenant: u32) -> Request {
+    Request::Withdraw { tenant }
+}
+
+/// The numbers of a line in which these wait: tenant, level, and how often it was passed.
+fn line_of(waiting: &[(u16, u32, u32)]) -> Vec<u16> {
+    let waiting: Vec<Waiting> = waiting
+        .iter()
+        .map(|&(tenant, level, passed)| Waiting { tenant, level, passed })
+        .collect();
+    line::numbers(&waiting)
 }
 
 fn direct(tenant: u16, old: Node, new: Node) -> Move {
@@ -247,6 +277,7 @@ fn a_growth_moves_seven_others() {
             let six = Lent {
                 height,
                 table: &held,
+                line: &line::EMPTY,
                 entries: 6,
             };
             assert_eq!(planner::call(six, grow(tenant, MOST_MOVED.to)).answer, 3);
@@ -259,9 +290,11 @@ fn a_growth_moves_seven_others() {
 fn kept(held: &[Node], tenant: u32) -> Outcome {
     Outcome {
         answer: 0,
+        admitted: None,
         node: held[tenant as usize],
         moves: Vec::new(),
         table: held.to_vec(),
+        line: line::EMPTY.to_vec(),
     }
 }
 
@@ -308,6 +341,7 @@ fn a_repeated_start_is_judged_where_8_is() {
     let short = Lent {
         height: 3,
         table: &held,
+        line: &line::EMPTY,
         entries: 3,
     };
     assert_eq!(planner::call(short, grant(0, 1)).answer, 3);
@@ -327,6 +361,265 @@ fn a_start_may_be_repeated_after_a_growth() {
     assert_eq!(call(3, &grown.table, grant(0, 2)), kept(&grown.table, 0));
     assert_eq!(call(3, &grown.table, grant_pages(0, 3)), kept(&grown.table, 0));
     assert_eq!(call(3, &grown.table, grant(0, 1)).answer, 8);
+}
+
+#[test]
+fn a_line_is_193_numbers() {
+    assert_eq!((LINE_NUMBERS, LINE_BYTES, MOST_WAITING), (193, 386, 64));
+    let line = line_of(&[(4095, 12, 8), (0, 0, 0)]);
+    assert_eq!(line[..8], [2, 4095, 12, 8, 0, 0, 0, 0]);
+    assert!(line.len() == 193 && line[8..].iter().all(|&number| number == 0));
+    assert_eq!(line_of(&[]), line::EMPTY);
+}
+
+/// Whoever joins stands at the end and has not been passed, though there be room.
+#[test]
+fn a_tenant_may_wait() {
+    let held = table(&[4, 10, 3]);
+    for (before, after) in [
+        (line_of(&[]), line_of(&[(7, 0, 0)])),
+        (line_of(&[(9, 3, 2)]), line_of(&[(9, 3, 2), (7, 0, 0)])),
+        (line_of(&[(9, 3, 8)]), line_of(&[(9, 3, 8), (7, 0, 0)])),
+    ] {
+        let outcome = call_beside(3, &held, &before, join(7, 0));
+        assert_eq!((outcome.answer, outcome.node, outcome.moves.len()), (0, 0, 0));
+        assert_eq!((outcome.table, outcome.line), (held.clone(), after));
+    }
+}
+
+/// The listing's fourth line, from the line: the same node, moves and table, and the line is empty then.
+#[test]
+fn whoever_is_admitted_is_granted_its_block() {
+    let held = table(&[2, 6]);
+    let granted = call(2, &held, grant(2, 0));
+    let admitted = call_beside(2, &held, &line_of(&[(2, 0, 0)]), Request::Admit);
+    assert_eq!(admitted.admitted, Some(2));
+    assert_eq!((admitted.answer, admitted.node), (0, 5));
+    assert_eq!((&admitted.table, &admitted.moves), (&granted.table, &granted.moves));
+    assert_eq!(admitted.moves, [direct(0, 2, 3), staged(1, 6, 4)]);
+    assert_eq!(admitted.line, line::EMPTY);
+}
+
+/// On four pages of which one is free: the first who fits, whoever would fit better, and those in front are passed.
+#[test]
+fn the_first_from_the_front_who_fits_is_admitted() {
+    let held = table(&[2, 6]);
+    let before = line_of(&[(7, 2, 3), (8, 1, 0), (9, 0, 1), (10, 0, 0)]);
+    let outcome = call_beside(2, &held, &before, Request::Admit);
+    assert_eq!(outcome.admitted, Some(9));
+    assert_eq!(outcome.line, line_of(&[(7, 2, 4), (8, 1, 1), (10, 0, 0)]));
+    // With two pages more it is the turn of one further in front.
+    let outcome = call_beside(2, &table(&[4]), &before, Request::Admit);
+    assert_eq!(outcome.admitted, Some(8));
+    assert_eq!(outcome.line, line_of(&[(7, 2, 4), (9, 0, 1), (10, 0, 0)]));
+}
+
+#[test]
+fn behind_a_tenant_passed_eight_times_all_are_barred() {
+    let held = table(&[2, 6]);
+    let nobody = |line: &[u16]| {
+        let outcome = call_beside(2, &held, line, Request::Admit);
+        assert_eq!((outcome.answer, outcome.admitted, outcome.node), (0, None, 0));
+        assert_eq!(
+            (outcome.moves.len(), outcome.table == held, outcome.line == line),
+            (0, true, true)
+        );
+    };
+    nobody(&line_of(&[(7, 1, 8), (9, 0, 0)]));
+    nobody(&line_of(&[(6, 2, 7), (7, 1, 8), (9, 0, 0)]));
+    nobody(&line_of(&[]));
+    // Whoever was passed that often gets in itself, and so does one in front of it, which the other does not bar.
+    for (line, admitted) in [
+        (line_of(&[(7, 0, 8), (9, 0, 0)]), 7),
+        (line_of(&[(6, 0, 0), (7, 2, 8), (9, 0, 0)]), 6),
+    ] {
+        let outcome = call_beside(2, &held, &line, Request::Admit);
+        assert_eq!(outcome.admitted, Some(admitted), "{line:?}");
+    }
+}
+
+#[test]
+fn a_direct_grant_counts_as_last_in_line() {
+    let held = table(&[2]);
+    let outcome = call_beside(2, &held, &line_of(&[(7, 2, 7), (8, 0, 0)]), grant(9, 0));
+    assert_eq!((outcome.answer, &outcome.line), (0, &line_of(&[(7, 2, 8), (8, 0, 1)])));
+    for request in [grant(10, 0), grant_pages(10, 1), grant(10, 2)] {
+        let barred = call_beside(2, &outcome.table, &outcome.line, request);
+        assert_eq!((barred.answer, &barred.line), (10, &outcome.line), "{request:?}");
+    }
+    // Without room nobody is passed.
+    let full = call_beside(2, &table(&[1]), &line_of(&[(7, 2, 7)]), grant(9, 0));
+    assert_eq!((full.answer, full.line), (10, line_of(&[(7, 2, 7)])));
+}
+
+/// A repeated grant is no grant: it is not barred, and nobody is passed by it.
+#[test]
+fn a_start_may_be_repeated_beside_a_line() {
+    let held = table(&[2, 6]);
+    for line in [line_of(&[(7, 0, 3)]), line_of(&[(7, 0, 8), (8, 2, 0)])] {
+        for request in [grant(1, 0), grant(0, 1), grant_pages(0, 1)] {
+            let outcome = call_beside(2, &held, &line, request);
+            assert_eq!((outcome.answer, outcome.moves.len()), (0, 0), "{request:?}");
+            assert_eq!((&outcome.table, &outcome.line), (&held, &line), "{request:?}");
+        }
+        assert_eq!(call_beside(2, &held, &line, grant(0, 0)).answer, 8);
+    }
+}
+
+/// The others keep their counts, and whoever comes back has none.
+#[test]
+fn a_tenant_may_wait_no_longer() {
+    let held = table(&[1]);
+    let before = line_of(&[(7, 0, 8), (8, 1, 5), (9, 2, 3)]);
+    let left = call_beside(3, &held, &before, withdraw(8));
+    assert_eq!((left.answer, left.node, left.admitted), (0, 0, None));
+    assert_eq!(left.line, line_of(&[(7, 0, 8), (9, 2, 3)]));
+    let back = call_beside(3, &held, &left.line, join(8, 1));
+    assert_eq!(back.line, line_of(&[(7, 0, 8), (9, 2, 3), (8, 1, 0)]));
+    // Neither somebody who never waited nor a holder can.
+    for tenant in [0, 10] {
+        assert_eq!(call_beside(3, &held, &before, withdraw(tenant)).answer, 9);
+    }
+}
+
+/// A line with as many as can wait, tenants 100 and above.
+fn full_line() -> Vec<u16> {
+    let waiting: Vec<(u16, u32, u32)> = (100..164).map(|tenant| (tenant, 0, 0)).collect();
+    line_of(&waiting)
+}
+
+/// 8 comes first, then 18, then 17.
+#[test]
+fn who_cannot_wait_is_told_why() {
+    let held = table(&[1]);
+    let answer = |line: &[u16], request| {
+        let outcome = call_beside(3, &held, line, request);
+        assert!(outcome.answer == 0 || outcome.line == line, "{request:?}");
+        outcome.answer
+    };
+    let full = full_line();
+    assert_eq!([join(0, 3), join(0, 1)].map(|request| answer(&full, request)), [8, 8]);
+    assert_eq!(
+        [join(163, 0), grant(163, 0)].map(|request| answer(&full, request)),
+        [18, 18]
+    );
+    assert_eq!(
+        [join(99, 0), grant(99, 0)].map(|request| answer(&full, request)),
+        [17, 10]
+    );
+    let one_less = call_beside(3, &held, &full, withdraw(130)).line;
+    assert_eq!(
+        [join(99, 0), join(130, 0)].map(|request| answer(&one_less, request)),
+        [0, 0]
+    );
+}
+
+/// Every condition of 7 alone, and a line that is in order though a younger one was passed more often than an older one.
+#[test]
+fn a_line_has_to_be_in_order() {
+    let held = table(&[2]);
+    let good = line_of(&[(7, 2, 0), (8, 0, 8)]);
+    let changed = |place: usize, number: u16| {
+        let mut line = good.clone();
+        line[place] = number;
+        line
+    };
+    let mut too_many = full_line();
+    too_many[0] = 65;
+    let spoilt = [
+        too_many,
+        changed(0, 1),
+        changed(192, 1),
+        changed(7, 1),
+        changed(3, 9),
+        changed(2, 3),
+        changed(1, 4096),
+        changed(1, 8),
+        changed(1, 0),
+    ];
+    let requests = [grant(9, 0), grant_pages(9, 0), join(9, 0), Request::Admit, withdraw(9)];
+    for request in requests {
+        assert_ne!(call_beside(2, &held, &good, request).answer, 7, "{request:?}");
+        for line in &spoilt {
+            let outcome = call_beside(2, &held, line, request);
+            assert_eq!(
+                (outcome.answer, outcome.node, outcome.admitted),
+                (7, 0, None),
+                "{request:?} {line:?}"
+            );
+            assert_eq!((&outcome.table, &outcome.line), (&held, line), "{request:?}");
+        }
+    }
+    // The highest numbers that there may be.
+    let highest = line_of(&[(4095, 2, 8)]);
+    assert_eq!(call_beside(2, &held, &highest, withdraw(4095)).answer, 0);
+}
+
+/// A release and a growth are given no line, so none of them can be wrong for these.
+#[test]
+fn releases_and_growths_take_no_line() {
+    for line in [&[][..], &[65; 193], &[0; 194]] {
+        for request in [release(0), grow(0, 0)] {
+            let outcome = call_beside(2, &table(&[2]), line, request);
+            assert_eq!((outcome.answer, &outcome.line[..]), (0, line), "{request:?}");
+        }
+    }
+}
+
+/// The first number that applies, with everything else wrong as well.
+#[test]
+fn calls_of_the_line_are_judged_in_their_order() {
+    let (short_table, ruined) = (vec![9; TENANTS - 1], vec![9; TENANTS]);
+    let (short_line, ruined_line) = (vec![9; 192], vec![9; 193]);
+    let answer = |height, table: &[Node], line: &[u16], entries, request| {
+        let lent = Lent {
+            height,
+            table,
+            line,
+            entries,
+        };
+        planner::call(lent, request).answer
+    };
+    let requests = [
+        grant(4096, 13),
+        grant_pages(4096, 4096),
+        join(4096, 13),
+        Request::Admit,
+        withdraw(4096),
+    ];
+    for request in requests {
+        assert_eq!(answer(13, &short_table, &short_line, 0, request), 1);
+        assert_eq!(answer(12, &short_table, &ruined_line, 0, request), 2);
+        assert_eq!(answer(12, &ruined, &short_line, 0, request), 2);
+        assert_eq!(answer(12, &ruined, &[9; 194], 0, request), 2);
+        assert_eq!(answer(12, &ruined, &[], 0, request), 2);
+    }
+    let after_the_list = requests.map(|request| answer(12, &ruined, &ruined_line, 3, request));
+    assert_eq!(after_the_list, [3, 3, 4, 3, 4]);
+    let after_the_tenant = requests.map(|request| answer(12, &ruined, &ruined_line, 4, request));
+    assert_eq!(after_the_tenant, [4, 4, 4, 7, 4]);
+    assert_eq!(answer(12, &ruined, &ruined_line, 0, join(4095, 13)), 5);
+    for request in [
+        grant(9, 12),
+        grant_pages(9, 0),
+        join(9, 12),
+        Request::Admit,
+        withdraw(9),
+    ] {
+        assert_eq!(answer(12, &ruined, &line::EMPTY, 4, request), 7);
+        assert_eq!(answer(12, &table(&[]), &ruined_line, 4, request), 7);
+    }
+}
+
+#[test]
+fn opening_empties_any_line() {
+    let opened = planner::open(3, &table(&[]), &[9; 193]);
+    assert_eq!((opened.answer, opened.line), (0, line::EMPTY.to_vec()));
+    for (height, length, due) in [(3, 192, 2), (3, 194, 2), (3, 0, 2), (13, 0, 1)] {
+        let line = vec![9; length];
+        let opened = planner::open(height, &table(&[1]), &line);
+        assert_eq!((opened.answer, opened.table, opened.line), (due, table(&[1]), line));
+    }
 }
 
 const JOURNAL: [u8; 22] = [1, 2, 2, 0, 0, 1, 2, 1, 0, 0, 2, 2, 0, 0, 4, 7, 0, 3, 3, 0, 1, 0];
@@ -357,6 +650,62 @@ fn repeated_grants_are_lines_of_the_listing() {
     assert_eq!(listing(&journal), [LISTING, lines].concat());
 }
 
+/// A whole block is held, two wait, and the first of them gets it when it is released. The second gets tired.
+#[test]
+fn those_who_wait_are_lines_of_the_listing() {
+    let journal = [
+        &[1, 1][..],
+        &[2, 0, 0, 1],
+        &[9, 1, 0, 1],
+        &[9, 2, 0, 0],
+        &[9, 0, 0, 1],
+        &[9, 1, 0, 0],
+        &[9, 0, 16, 0],
+        &[9, 3, 0, 2],
+        &[2, 2, 0, 0],
+        &[10],
+        &[4, 0, 0],
+        &[10],
+        &[10],
+        &[11, 1, 0],
+        &[11, 2, 0],
+        &[11, 255, 255],
+    ];
+    let expected = "\
+1 O 1 - 0 - 0
+2 G 0 1 0 1 0
+3 W 1 1 0 - 0
+4 W 2 0 0 - 0
+5 W 0 1 8 - 0
+6 W 1 0 18 - 0
+7 W 4096 0 4 - 0
+8 W 3 2 5 - 0
+9 G 2 0 18 - 0
+10 A - - 0 0 0
+11 R 0 - 0 1 0
+12 A 1 - 0 1 0
+13 A - - 0 0 0
+14 X 1 - 9 - 0
+15 X 2 - 0 - 0
+16 X 65535 - 4 - 0
+";
+    assert_eq!(listing(&journal.concat()), expected);
+}
+
+/// The fourth line once more, with an admit instead of the grant; and the 65th to join.
+#[test]
+fn admits_are_listed_with_their_moves_and_full_lines_with_17() {
+    let journal = [&JOURNAL[..10], &[9, 2, 0, 0], &[10]].concat();
+    let lines: Vec<&str> = LISTING.lines().take(3).collect();
+    let expected = format!("{}\n4 W 2 0 0 - 0\n5 A 2 - 0 5 2 0:2>3 1:6=4\n", lines.join("\n"));
+    assert_eq!(listing(&journal), expected);
+
+    let joins: Vec<u8> = (0..65).flat_map(|tenant| [9, tenant, 0, 0]).collect();
+    let text = listing(&[&[1, 0], &joins[..], &[10]].concat());
+    let ends: Vec<&str> = text.lines().skip(64).collect();
+    assert_eq!(ends, ["65 W 63 0 0 - 0", "66 W 64 0 17 - 0", "67 A 0 - 0 1 0"]);
+}
+
 #[test]
 fn moves_are_four_numbers_of_two_bytes() {
     let moves = [direct(0x0102, 2, 3), staged(1, 6, 0x1004)];
@@ -372,7 +721,8 @@ fn moves_are_four_numbers_of_two_bytes() {
 fn fewer_than_32_bytes_are_too_short_a_list() {
     for length in 0..=64 {
         let mut moves = vec![0xa5; length];
-        let reply = Oracle.grant_level(0, &mut vec![0; 2 * TENANTS], &mut moves, 0, 0);
+        let (mut table, mut line) = (vec![0; TABLE_BYTES], vec![0; LINE_BYTES]);
+        let reply = Oracle.grant_level(0, &mut table, &mut line, &mut moves, 0, 0);
         assert_eq!(reply.answer, if length < 32 { 3 } else { 0 }, "{length} bytes");
         assert!(moves.iter().all(|&byte| byte == 0xa5));
     }
@@ -392,6 +742,12 @@ fn listings_that_end_early() {
     assert_eq!(listing(&[1, 0, 4, 1]), "1 O 0 - 0 - 0\n! 2 13\n");
     assert_eq!(listing(&[1, 0, 1, 0]), "1 O 0 - 0 - 0\n! 2 14\n");
     assert_eq!(listing(&[1, 0, 1]), "1 O 0 - 0 - 0\n! 2 13\n");
+    assert_eq!(listing(&[1, 0, 9, 0, 0]), "1 O 0 - 0 - 0\n! 2 13\n");
+    assert_eq!(listing(&[1, 0, 11, 0]), "1 O 0 - 0 - 0\n! 2 13\n");
+    for unknown in [0, 6, 7, 8, 12] {
+        assert_eq!(listing(&[1, 0, unknown, 10]), "1 O 0 - 0 - 0\n! 2 12\n");
+        assert_eq!(listing(&[1, 0, 10, unknown]), "1 O 0 - 0 - 0\n2 A - - 0 0 0\n! 3 12\n");
+    }
 }
 
 #[test]
@@ -433,7 +789,14 @@ fn arguments_are_judged_in_the_order_of_their_numbers() {
     let short = vec![9; TENANTS - 1];
     let long = vec![9; TENANTS + 1];
     let answer = |height, table: &[Node], entries, request| {
-        let outcome = planner::call(Lent { height, table, entries }, request);
+        let line = &line::EMPTY;
+        let lent = Lent {
+            height,
+            table,
+            line,
+            entries,
+        };
+        let outcome = planner::call(lent, request);
         assert_eq!((outcome.node, outcome.moves.len()), (0, 0));
         assert_eq!(outcome.table, table);
         outcome.answer
@@ -461,11 +824,11 @@ fn arguments_are_judged_in_the_order_of_their_numbers() {
 #[test]
 fn edges_of_the_arguments() {
     let empty = table(&[]);
-    assert_eq!(planner::open(12, &empty).answer, 0);
-    assert_eq!(planner::open(13, &empty).answer, 1);
-    assert_eq!(planner::open(13, &[]).answer, 1);
-    assert_eq!(planner::open(0, &empty[1..]).answer, 2);
-    assert_eq!(planner::open(0, &[0; TENANTS + 1]).answer, 2);
+    assert_eq!(planner::open(12, &empty, &line::EMPTY).answer, 0);
+    assert_eq!(planner::open(13, &empty, &line::EMPTY).answer, 1);
+    assert_eq!(planner::open(13, &[], &line::EMPTY).answer, 1);
+    assert_eq!(planner::open(0, &empty[1..], &line::EMPTY).answer, 2);
+    assert_eq!(planner::open(0, &[0; TENANTS + 1], &line::EMPTY).answer, 2);
     for height in 0..=12 {
         assert_eq!(call(height, &empty, grant(4095, 0)).answer, 0);
         assert_eq!(call(height, &empty, grant(4096, 0)).answer, 4);
@@ -475,6 +838,7 @@ fn edges_of_the_arguments() {
     let three = Lent {
         height: 0,
         table: &empty,
+        line: &line::EMPTY,
         entries: 3,
     };
     assert_eq!(planner::call(three, grant(0, 0)).answer, 3);
@@ -484,10 +848,10 @@ fn edges_of_the_arguments() {
 #[test]
 fn opening_empties_any_table() {
     let ruined = vec![65_535; TENANTS];
-    let opened = planner::open(3, &ruined);
+    let opened = planner::open(3, &ruined, &line::EMPTY);
     assert_eq!((opened.answer, opened.node, opened.moves.len()), (0, 0, 0));
     assert_eq!(opened.table, table(&[]));
-    assert_eq!(planner::open(13, &ruined).table, ruined);
+    assert_eq!(planner::open(13, &ruined, &line::EMPTY).table, ruined);
 }
 
 #[test]
@@ -577,6 +941,7 @@ fn version_3_gave_one_page_and_refused_what_is_repeated() {
         let lent = Lent {
             height,
             table: &held,
+            line: &line::EMPTY,
             entries: 4,
         };
         let before = |request| planner::call_under(Rules::Version3, lent, request);
@@ -648,8 +1013,8 @@ fn maps() {
 
     let mut short = [0xa5; MAP_BYTES - 1];
     assert_eq!(page_map::draw(3, &held, &mut short), Err(Refusal::TooSmall));
-    assert_eq!(page_map::draw(3, &table(&[9]), &mut short), Err(Refusal::Table));
-    assert_eq!(page_map::draw(3, &held[1..], &mut short), Err(Refusal::TableLength));
+    assert_eq!(page_map::draw(3, &table(&[9]), &mut short), Err(Refusal::Disorder));
+    assert_eq!(page_map::draw(3, &held[1..], &mut short), Err(Refusal::Length));
     assert_eq!(page_map::draw(13, &held[1..], &mut short), Err(Refusal::Height));
     assert_eq!(short, [0xa5; MAP_BYTES - 1]);
 }
@@ -734,8 +1099,14 @@ fn every_record_fits_exactly_or_changes_nothing() {
             tenant: 0x0102,
             level: 255,
         },
+        Record::Join {
+            tenant: 0x0102,
+            level: 255,
+        },
+        Record::Admit,
+        Record::Withdraw { tenant: 0x0102 },
     ];
-    for (record, length) in records.into_iter().zip([2, 4, 5, 3, 4]) {
+    for (record, length) in records.into_iter().zip([2, 4, 5, 3, 4, 4, 1, 3]) {
         let mut lent = [0xa5; 8];
         assert_eq!(journal::write(&record, &mut lent[..length - 1]), Err(Refusal::TooSmall));
         assert_eq!(lent, [0xa5; 8]);
@@ -745,6 +1116,9 @@ fn every_record_fits_exactly_or_changes_nothing() {
     }
     assert_eq!(records[2].bytes(), [3, 0x34, 0x12, 0xcd, 0xab]);
     assert_eq!(records[4].bytes(), [5, 0x02, 0x01, 255]);
+    assert_eq!(records[5].bytes(), [9, 0x02, 0x01, 255]);
+    assert_eq!(records[6].bytes(), [10]);
+    assert_eq!(records[7].bytes(), [11, 0x02, 0x01]);
 }
 
 // Layouts and rules that look tidy and are wrong. Each is built here as somebody might, and must come out different.

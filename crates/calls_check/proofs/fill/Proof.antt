@@ -15,8 +15,8 @@ abbrev μ-loop : tie.MeasureT-loop
 loop-holds : tie.Need-loop-holds Inv-loop μ-loop
 loop-holds c = search needs
 
-perform-by-value-requires : tie.Need-perform-by-value-requires Inv-loop μ-loop
-perform-by-value-requires c κs = search needs
+run-alone-requires : tie.Need-run-alone-requires Inv-loop μ-loop
+run-alone-requires c κs = search needs
 
 add-tenant : tie.Need-add-tenant Inv-loop μ-loop
 add-tenant c = search needs
@@ -40,7 +40,7 @@ fill-spec =
     Inv-loop
     μ-loop
     loop-holds
-    perform-by-value-requires
+    run-alone-requires
     add-tenant
     loop-less
     loop-again

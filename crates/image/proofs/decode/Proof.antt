@@ -1,6 +1,6 @@
 -- `image::decode` meets its contract. The loop's invariant: the numbers stored, and those of the bytes left, are the numbers of the image.
 -- The measure is how many are left.
-use mathlib.Core.Path.{_≡_, refl, sym, _∙_}
+use mathlib.Core.Path.{_≡_, refl, sym, ap, _∙_}
 use mathlib.Core.List.{_++_}
 use Prim.Native.Nat.{_+_, _*_, _-_, _≤_, zero-le}
 use native.Mathlib.Omega.{arith}
@@ -9,24 +9,30 @@ use borrow.Author.Tests.{eq-eqb, ne-eqb}
 use lib.ListN.{length, take, drop, length-set}
 use lib.Seq.{take-all}
 use Rattle.image.specs.Image.{numbersIn}
-use Rattle.image.proofs.Images.{table-of-other, decoded-more, decoded-all}
+use Rattle.image.proofs.Images.{lent-as-none, lent-as-all, decoded-more, decoded-all}
 use Rattle.image.proofs.decode.Statement.{statement}
 use Rattle.image.proofs.decode.Tie as tie
 
 abbrev Inv-loop : tie.InvT-loop
-Inv-loop image nodes₀ i₀ nodes i = (i ≤ 4096) × (take i nodes ++ numbersIn (drop (2 * i) image) ≡ numbersIn image) × (length nodes ≡ 4096)
+Inv-loop image numbers₀ i₀ numbers i =
+    (i ≤ length numbers₀) × (take i numbers ++ numbersIn (drop (2 * i) image) ≡ numbersIn image) × (length numbers ≡ length numbers₀)
 
 abbrev μ-loop : tie.MeasureT-loop
-μ-loop image nodes₀ i₀ nodes i = 4096 - i
+μ-loop image numbers₀ i₀ numbers i = length numbers₀ - i
+
+mul-if1 : tie.Need-mul-if1 Inv-loop μ-loop
+mul-if1 c = search needs
 
 returns : tie.Need-returns Inv-loop μ-loop
 returns c =
-    let s = c .before .before .args .image .now in
+    let a = c .before .before .before .args in
+    let s = a .image .now in
+    let n = length (a .numbers .now) in
     let other = c .if1 .taken in
-    (record { few = zero-le; front = sym (table-of-other s other); long = c .before .before .pre }, rw (ne-eqb (length s) 8192 other))
+    (record { few = zero-le; front = sym (lent-as-none n s other) }, rw (ne-eqb (length s) (2 * n) other))
 
 loop-holds : tie.Need-loop-holds Inv-loop μ-loop
-loop-holds c = (zero-le, refl, c .before .before .pre)
+loop-holds c = (zero-le, refl, refl)
 
 mul-word : tie.Need-mul-word Inv-loop μ-loop
 mul-word c = omega arith
@@ -46,11 +52,11 @@ shared-slice-read-word-2 c = omega arith
 word-requires : tie.Need-word-requires Inv-loop μ-loop
 word-requires c κs = search needs
 
-mul-nodes : tie.Need-mul-nodes Inv-loop μ-loop
-mul-nodes c = search needs
+mul-numbers : tie.Need-mul-numbers Inv-loop μ-loop
+mul-numbers c = search needs
 
-element-write-nodes : tie.Need-element-write-nodes Inv-loop μ-loop
-element-write-nodes c = omega arith
+slice-write-numbers : tie.Need-slice-write-numbers Inv-loop μ-loop
+slice-write-numbers c = search needs
 
 add-i : tie.Need-add-i Inv-loop μ-loop
 add-i c = omega arith
@@ -61,25 +67,30 @@ loop-less c = omega arith
 loop-again : tie.Need-loop-again Inv-loop μ-loop
 loop-again c =
     let at-loop = c .before .before .before .before in
-    let s = at-loop .before .before .before .args .image .now in
-    let nodes = at-loop .loop .nodes in
+    let s = at-loop .before .before .before .before .args .image .now in
+    let numbers = at-loop .loop .numbers in
     let i = at-loop .loop .i in (
       omega arith,
-      rw (c .word .ensures) (decoded-more s nodes i (at-loop .loop .inv .1) (omega arith) (omega arith)),
-      length-set nodes i (c .word .result) ∙ at-loop .loop .inv .2,
+      rw (c .word .ensures) (decoded-more s numbers i (at-loop .loop .inv .1) (omega arith) (omega arith)),
+      length-set numbers i (c .word .result) ∙ at-loop .loop .inv .2,
     )
+
+same-length : tie.Need-same-length Inv-loop μ-loop
+same-length c = c .before .loop .inv .2
 
 returns-2 : tie.Need-returns-2 Inv-loop μ-loop
 returns-2 c =
     let at-loop = c .before in
-    let s = at-loop .before .before .before .args .image .now in
-    let nodes = at-loop .loop .nodes in
-    let all : at-loop .loop .i ≡ 4096 = omega arith in
-    let whole : length s ≡ 8192 = omega arith in
-    let front = decoded-all s nodes whole (rw all at (at-loop .loop .inv .1)) in
-    let long = at-loop .loop .inv .2 in
-    let array = sym (take-all 4096 nodes (omega (arith, long))) ∙ front in
-    (record { few = omega arith; front = front; long = long }, rw (eq-eqb (length s) 8192 whole) array)
+    let a = at-loop .before .before .before .before .args in
+    let s = a .image .now in
+    let numbers = at-loop .loop .numbers in
+    let i = at-loop .loop .i in
+    let all : i ≡ length numbers = omega (arith, at-loop .loop .inv .2) in
+    let whole : length s ≡ 2 * length numbers = omega (arith, at-loop .loop .inv .2) in
+    let same = decoded-all s numbers i all whole (at-loop .loop .inv .1) in (
+      record { few = omega arith; front = take-all i numbers (omega arith) ∙ same ∙ sym (lent-as-all (length numbers) s whole) },
+      rw (eq-eqb (length s) (2 * length (a .numbers .now)) (omega (arith, at-loop .loop .inv .2))) same,
+    )
 
 pub decode-spec : {M : Type 1} → statement M
 decode-spec =
@@ -87,6 +98,7 @@ decode-spec =
     (tie.spec
     Inv-loop
     μ-loop
+    mul-if1
     returns
     loop-holds
     mul-word
@@ -95,9 +107,10 @@ decode-spec =
     add-word
     shared-slice-read-word-2
     word-requires
-    mul-nodes
-    element-write-nodes
+    mul-numbers
+    slice-write-numbers
     add-i
     loop-less
     loop-again
+    same-length
     returns-2)

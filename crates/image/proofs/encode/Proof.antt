@@ -12,14 +12,14 @@ use Rattle.image.proofs.encode.Statement.{statement}
 use Rattle.image.proofs.encode.Tie as tie
 
 abbrev Inv-loop : tie.InvT-loop
-Inv-loop nodes image₀ i₀ image i = (i ≤ 4096) × (image ≡ imageOf (take i nodes) ++ drop (2 * i) image₀) × (length image ≡ 8192)
+Inv-loop numbers image₀ i₀ image i = (i ≤ length numbers) × (image ≡ imageOf (take i numbers) ++ drop (2 * i) image₀) × (length image ≡ length image₀)
 
 abbrev μ-loop : tie.MeasureT-loop
-μ-loop nodes image₀ i₀ image i = 4096 - i
+μ-loop numbers image₀ i₀ image i = length numbers - i
 
 loop-holds : tie.Need-loop-holds Inv-loop μ-loop
 unfolding imageOf
-loop-holds c = (zero-le, refl, c .before .pre .1)
+loop-holds c = (zero-le, refl, refl)
 
 mul-put-word : tie.Need-mul-put-word Inv-loop μ-loop
 mul-put-word c = omega arith
@@ -27,8 +27,8 @@ mul-put-word c = omega arith
 mul-put-word-2 : tie.Need-mul-put-word-2 Inv-loop μ-loop
 mul-put-word-2 c = search needs
 
-element-copy-out-put-word : tie.Need-element-copy-out-put-word Inv-loop μ-loop
-element-copy-out-put-word c = omega arith
+shared-slice-read-put-word : tie.Need-shared-slice-read-put-word Inv-loop μ-loop
+shared-slice-read-put-word c = omega arith
 
 put-word-requires : tie.Need-put-word-requires Inv-loop μ-loop
 put-word-requires c κs = omega arith
@@ -42,27 +42,26 @@ loop-less c = omega arith
 loop-again : tie.Need-loop-again Inv-loop μ-loop
 loop-again c =
     let at-loop = c .before .before .before .before .before .before in
-    let start = at-loop .before .before in
+    let start = at-loop .before .before .before in
     let called = c .before .before .put-word in
     let i = at-loop .loop .i in
-    let in-table : i < length (start .args .nodes .now) = omega (arith, start .pre .0) in
-    let in-image : 2 * i + 2 ≤ length (start .args .image .now) = omega (arith, start .pre .1) in (
+    let in-numbers : i < length (start .args .numbers .now) = omega arith in
+    let in-image : 2 * i + 2 ≤ length (start .args .image .now) = omega (arith, start .pre) in (
       omega arith,
       called .ensures
-          ∙ encoded-more (start .args .image .now) (start .args .nodes .now) (at-loop .loop .image) i (at-loop .loop .inv .1) in-table in-image,
+          ∙ encoded-more (start .args .image .now) (start .args .numbers .now) (at-loop .loop .image) i (at-loop .loop .inv .1) in-numbers in-image,
       called .kept .0 ∙ at-loop .loop .inv .2,
     )
 
 same-length : tie.Need-same-length Inv-loop μ-loop
-same-length c = c .before .loop .inv .2 ∙ sym (c .before .before .before .pre .1)
+same-length c = c .before .loop .inv .2
 
 returns : tie.Need-returns Inv-loop μ-loop
 returns c =
     let at-loop = c .before in
-    let start = at-loop .before .before in
-    let all : at-loop .loop .i ≡ 4096 = omega arith in
-    encoded-all (start .args .image .now) (start .args .nodes .now) (at-loop .loop .image)
-    (rw all at (at-loop .loop .inv .1)) (start .pre .0) (start .pre .1)
+    let start = at-loop .before .before .before in
+    encoded-all (start .args .image .now) (start .args .numbers .now) (at-loop .loop .image) (at-loop .loop .i) (omega arith) (at-loop .loop .inv .1)
+    (start .pre)
 
 pub encode-spec : {M : Type 1} → statement M
 encode-spec =
@@ -73,7 +72,7 @@ encode-spec =
     loop-holds
     mul-put-word
     mul-put-word-2
-    element-copy-out-put-word
+    shared-slice-read-put-word
     put-word-requires
     add-i
     loop-less

@@ -54,6 +54,9 @@ slice-aggregate-list c = (rw (c .before .before .read .given .1) at (c .before .
 slice-aggregate-list-2 : tie.Need-slice-aggregate-list-2
 slice-aggregate-list-2 c = search needs
 
+slice-aggregate-list-3 : tie.Need-slice-aggregate-list-3
+slice-aggregate-list-3 c = search needs
+
 list-requires : tie.Need-list-requires
 list-requires c κs = search needs
 
@@ -87,6 +90,7 @@ main-spec =
     array-share-prefix-input
     slice-aggregate-list
     slice-aggregate-list-2
+    slice-aggregate-list-3
     list-requires
     slice-aggregate-close-output
     close-output-requires

@@ -25,18 +25,18 @@ cast-count c = search needs
 counted : (start : tie.Start) → start .args .called .plan .n ≡ length (movesIn (start .args .called .plan))
 counted start =
     let long : _≡_ {A = ℕ} (length (start .args .called .plan .moves)) 7 = search length-of-mapped in
-    sym (length-take-le (start .args .called .plan .n) (start .args .called .plan .moves) (omega (arith, start .pre .1 .1)))
+    sym (length-take-le (start .args .called .plan .n) (start .args .called .plan .moves) (omega (arith, start .pre .1)))
 
 returns : tie.Need-returns
 returns c =
-    let start = c .before .before .before .before .before .before .before in
+    let start = c .before .before .before .before .before .before .before .before in
     let a = start .args in
     let numbered = c .before .before .before .before .number in
     report-refused (valueOf (a .called) (a .nodes .now)) (a .table .now) (a .moves .now) _ (numbered .ensures)
     (c .before .before .before .node .ensures) (counted start) (λ z. omega (arith, c .if1 .taken, numbered .ensures ∙ z))
 
 -- past the test the answer is 0
-accepted : (x : tie.Else1) → numberOf (x .before .before .before .before .before .before .before .args .called .answer) ≡ 0
+accepted : (x : tie.Else1) → numberOf (x .before .before .before .before .before .before .before .before .args .called .answer) ≡ 0
 accepted x =
     let zero : x .before .before .before .before .number .result ≡ 0 = omega (arith, x .if1 .left) in
     sym (x .before .before .before .before .number .ensures) ∙ zero
@@ -44,12 +44,11 @@ accepted x =
 encode-requires : tie.Need-encode-requires
 encode-requires c κs =
     let x = c .before in
-    let pre = x .before .before .before .before .before .before .before .pre in
-    (pre .0, pre .1 .0 (accepted x))
+    x .before .before .before .before .before .before .before .before .pre .0 (accepted x)
 
 put-moves-requires : tie.Need-put-moves-requires
 put-moves-requires c κs =
-    c .before .before .before .before .before .before .before .before .before .before .before .before .pre .1 .1
+    c .before .before .before .before .before .before .before .before .before .before .before .before .before .pre .1
 
 same-length : tie.Need-same-length
 same-length c = search needs
@@ -60,7 +59,7 @@ same-length-2 c = search needs
 returns-2 : tie.Need-returns-2
 returns-2 c =
     let x = c .before .before .before .before .before .before .before .before in
-    let start = x .before .before .before .before .before .before .before in
+    let start = x .before .before .before .before .before .before .before .before in
     let a = start .args in
     report-done (valueOf (a .called) (a .nodes .now)) (a .table .now) (a .moves .now) _ (sym (accepted x)) (x .before .before .before .node .ensures)
     (counted start) (accepted x) _ _ (c .before .before .before .before .before .before .encode .ensures) (c .before .before .put-moves .ensures)

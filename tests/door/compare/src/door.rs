@@ -2,7 +2,7 @@
 
 use oracle::definitions::Node;
 use oracle::journal::{Reading, Record};
-use oracle::subject::{self, Count, Reach, Reply, Subject};
+use oracle::subject::{self, Count, Reach, Reply, Subject, NOBODY};
 
 use crate::functions::*;
 use crate::listing;
@@ -16,8 +16,20 @@ impl From<Outcome> for Reply {
     fn from(outcome: Outcome) -> Reply {
         Reply {
             answer: outcome.answer.into(),
+            tenant: NOBODY,
             node: outcome.node.into(),
             moves: outcome.moves.into(),
+        }
+    }
+}
+
+impl From<Admission> for Reply {
+    fn from(admission: Admission) -> Reply {
+        Reply {
+            answer: admission.answer.into(),
+            tenant: admission.tenant.into(),
+            node: admission.node.into(),
+            moves: admission.moves.into(),
         }
     }
 }
@@ -40,6 +52,12 @@ fn record(read: &Read) -> Record {
             tenant: read.who,
             level: byte(read.size),
         },
+        9 => Record::Join {
+            tenant: read.who,
+            level: byte(read.size),
+        },
+        10 => Record::Admit,
+        11 => Record::Withdraw { tenant: read.who },
         kind => panic!("a record of kind {kind}"),
     }
 }
@@ -58,22 +76,68 @@ impl Subject for Door {
         }
     }
 
-    fn open(&mut self, height: u32, table: &mut [u8]) -> u32 {
-        unsafe { reserve_open(narrow(height), table.as_mut_ptr(), table.len()) }.into()
+    fn open(&mut self, height: u32, table: &mut [u8], line: &mut [u8]) -> u32 {
+        let (table, table_length) = (table.as_mut_ptr(), table.len());
+        let (line, line_length) = (line.as_mut_ptr(), line.len());
+        unsafe { reserve_open(narrow(height), table, table_length, line, line_length) }.into()
     }
 
-    fn grant_level(&mut self, height: u32, table: &mut [u8], moves: &mut [u8], tenant: u32, level: u32) -> Reply {
+    fn grant_level(
+        &mut self,
+        height: u32,
+        table: &mut [u8],
+        line: &mut [u8],
+        moves: &mut [u8],
+        tenant: u32,
+        level: u32,
+    ) -> Reply {
         let (table, table_length) = (table.as_mut_ptr(), table.len());
+        let (line, line_length) = (line.as_mut_ptr(), line.len());
         let (moves, moves_length) = (moves.as_mut_ptr(), moves.len());
         let (height, tenant, level) = (narrow(height), narrow(tenant), narrow(level));
-        unsafe { reserve_grant_level(height, table, table_length, moves, moves_length, tenant, level) }.into()
+        let outcome = unsafe {
+            reserve_grant_level(
+                height,
+                table,
+                table_length,
+                line,
+                line_length,
+                moves,
+                moves_length,
+                tenant,
+                level,
+            )
+        };
+        outcome.into()
     }
 
-    fn grant_pages(&mut self, height: u32, table: &mut [u8], moves: &mut [u8], tenant: u32, pages: u32) -> Reply {
+    fn grant_pages(
+        &mut self,
+        height: u32,
+        table: &mut [u8],
+        line: &mut [u8],
+        moves: &mut [u8],
+        tenant: u32,
+        pages: u32,
+    ) -> Reply {
         let (table, table_length) = (table.as_mut_ptr(), table.len());
+        let (line, line_length) = (line.as_mut_ptr(), line.len());
         let (moves, moves_length) = (moves.as_mut_ptr(), moves.len());
         let (height, tenant, pages) = (narrow(height), narrow(tenant), narrow(pages));
-        unsafe { reserve_grant_pages(height, table, table_length, moves, moves_length, tenant, pages) }.into()
+        let outcome = unsafe {
+            reserve_grant_pages(
+                height,
+                table,
+                table_length,
+                line,
+                line_length,
+                moves,
+                moves_length,
+                tenant,
+                pages,
+            )
+        };
+        outcome.into()
     }
 
     fn release(&mut self, height: u32, table: &mut [u8], moves: &mut [u8], tenant: u32) -> Reply {
@@ -87,6 +151,27 @@ impl Subject for Door {
         let (moves, moves_length) = (moves.as_mut_ptr(), moves.len());
         let (height, tenant, level) = (narrow(height), narrow(tenant), narrow(level));
         unsafe { reserve_grow(height, table, table_length, moves, moves_length, tenant, level) }.into()
+    }
+
+    fn join(&mut self, height: u32, table: &[u8], line: &mut [u8], tenant: u32, level: u32) -> u32 {
+        let (table, table_length) = (table.as_ptr(), table.len());
+        let (line, line_length) = (line.as_mut_ptr(), line.len());
+        let (height, tenant, level) = (narrow(height), narrow(tenant), narrow(level));
+        unsafe { reserve_join(height, table, table_length, line, line_length, tenant, level) }.into()
+    }
+
+    fn admit(&mut self, height: u32, table: &mut [u8], line: &mut [u8], moves: &mut [u8]) -> Reply {
+        let (table, table_length) = (table.as_mut_ptr(), table.len());
+        let (line, line_length) = (line.as_mut_ptr(), line.len());
+        let (moves, moves_length) = (moves.as_mut_ptr(), moves.len());
+        let height = narrow(height);
+        unsafe { reserve_admit(height, table, table_length, line, line_length, moves, moves_length) }.into()
+    }
+
+    fn withdraw(&mut self, height: u32, table: &[u8], line: &mut [u8], tenant: u32) -> u32 {
+        let (table, table_length) = (table.as_ptr(), table.len());
+        let (line, line_length) = (line.as_mut_ptr(), line.len());
+        unsafe { reserve_withdraw(narrow(height), table, table_length, line, line_length, narrow(tenant)) }.into()
     }
 
     fn node_pages(&mut self, height: u32, node: Node) -> subject::Pages {
@@ -144,6 +229,9 @@ impl Subject for Door {
                 Record::GrantPages { tenant, pages } => reserve_write_grant_pages(tenant, pages, out, length),
                 Record::Release { tenant } => reserve_write_release(tenant, out, length),
                 Record::Grow { tenant, level } => reserve_write_grow(tenant, level, out, length),
+                Record::Join { tenant, level } => reserve_write_join(tenant, level, out, length),
+                Record::Admit => reserve_write_admit(out, length),
+                Record::Withdraw { tenant } => reserve_write_withdraw(tenant, out, length),
             }
         };
         let bytes = if written.answer == 0 { record.bytes().len() } else { 0 };

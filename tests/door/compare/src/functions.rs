@@ -8,6 +8,14 @@ pub struct Outcome {
 }
 
 #[repr(C)]
+pub struct Admission {
+    pub answer: u16,
+    pub tenant: u16,
+    pub node: u16,
+    pub moves: u16,
+}
+
+#[repr(C)]
 pub struct Pages {
     pub answer: u16,
     pub first: u16,
@@ -36,11 +44,13 @@ pub struct Counted {
 }
 
 extern "C" {
-    pub fn reserve_open(height: u16, table: *mut u8, table_length: usize) -> u16;
+    pub fn reserve_open(height: u16, table: *mut u8, table_length: usize, line: *mut u8, line_length: usize) -> u16;
     pub fn reserve_grant_level(
         height: u16,
         table: *mut u8,
         table_length: usize,
+        line: *mut u8,
+        line_length: usize,
         moves: *mut u8,
         moves_length: usize,
         tenant: u16,
@@ -50,6 +60,8 @@ extern "C" {
         height: u16,
         table: *mut u8,
         table_length: usize,
+        line: *mut u8,
+        line_length: usize,
         moves: *mut u8,
         moves_length: usize,
         tenant: u16,
@@ -72,6 +84,32 @@ extern "C" {
         tenant: u16,
         level: u16,
     ) -> Outcome;
+    pub fn reserve_join(
+        height: u16,
+        table: *const u8,
+        table_length: usize,
+        line: *mut u8,
+        line_length: usize,
+        tenant: u16,
+        level: u16,
+    ) -> u16;
+    pub fn reserve_admit(
+        height: u16,
+        table: *mut u8,
+        table_length: usize,
+        line: *mut u8,
+        line_length: usize,
+        moves: *mut u8,
+        moves_length: usize,
+    ) -> Admission;
+    pub fn reserve_withdraw(
+        height: u16,
+        table: *const u8,
+        table_length: usize,
+        line: *mut u8,
+        line_length: usize,
+        tenant: u16,
+    ) -> u16;
     pub fn reserve_node_pages(height: u16, node: u16) -> Pages;
     pub fn reserve_draw(height: u16, table: *const u8, table_length: usize, map: *mut u8, map_length: usize) -> u16;
     pub fn reserve_count(map: *const u8, map_length: usize) -> Counted;
@@ -81,4 +119,7 @@ extern "C" {
     pub fn reserve_write_grant_pages(tenant: u16, pages: u16, out: *mut u8, out_length: usize) -> Written;
     pub fn reserve_write_release(tenant: u16, out: *mut u8, out_length: usize) -> Written;
     pub fn reserve_write_grow(tenant: u16, level: u8, out: *mut u8, out_length: usize) -> Written;
+    pub fn reserve_write_join(tenant: u16, level: u8, out: *mut u8, out_length: usize) -> Written;
+    pub fn reserve_write_admit(out: *mut u8, out_length: usize) -> Written;
+    pub fn reserve_write_withdraw(tenant: u16, out: *mut u8, out_length: usize) -> Written;
 }

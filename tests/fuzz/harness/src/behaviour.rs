@@ -1,16 +1,18 @@
 //! What a planner did, as counters that the fuzzer reads beside those of the planner's code.
 //!
-//! A counter stands for a kind of call with its height and answer, or for the list of an accepted call: the level of each
-//! mover, in order, and whether it is staged. An input that raises a new one is kept, so the search also goes for
-//! behaviour that runs no new code: a move on one more level, a growth that moves seven, two movers in another order.
+//! A counter stands for a kind of call with its height and answer; for the list of an accepted call: the level of each
+//! mover, in order, and whether it is staged; or for a line that a call leaves: about how many wait, and how often the one that
+//! was passed most. An input that raises a new one is kept, so the search also goes for behaviour that runs no new code: a move
+//! on one more level, a growth that moves seven, two movers in another order, a line that fills up, a tenant passed once more.
 
 use std::hash::{DefaultHasher, Hash, Hasher};
 use std::ptr::addr_of_mut;
 
 use oracle::definitions::{Node, Tree, TALLEST};
 use oracle::journal::{Reading, Record};
+use oracle::line::MOST_WAITING;
 use oracle::refusal::DONE;
-use oracle::subject::{moves_from, Count, Pages, Reach, Reply, Subject};
+use oracle::subject::{line_from, moves_from, Count, Pages, Reach, Reply, Subject};
 
 const COUNTERS: usize = 1 << 13;
 
@@ -35,13 +37,28 @@ enum Kind {
     GrantPages,
     Release,
     Grow,
+    Join,
+    Admit,
+    Withdraw,
 }
 
 /// A planner that is watched.
 pub struct Watched<S>(pub S);
 
+fn note_answer(kind: Kind, height: u32, answer: u32) {
+    count((kind, height.min(TALLEST + 1), answer));
+}
+
+fn note_line(kind: Kind, line: &[u8], answer: u32) {
+    if let [waiting, triples @ ..] = line_from(line).as_slice() {
+        let number = usize::from(*waiting).min(MOST_WAITING);
+        let most_passed = triples.chunks_exact(3).take(number).map(|waiting| waiting[2]).max();
+        count((kind, answer, number.checked_ilog2(), most_passed));
+    }
+}
+
 fn note(kind: Kind, height: u32, moves: &[u8], reply: Reply) -> Reply {
-    count((kind, height.min(TALLEST + 1), reply.answer));
+    note_answer(kind, height, reply.answer);
     if reply.answer == DONE && height <= TALLEST {
         let tree = Tree::new(height);
         let in_tree = |node: u16| (1..=tree.last_node()).contains(&node);
@@ -51,9 +68,9 @@ fn note(kind: Kind, height: u32, moves: &[u8], reply: Reply) -> Reply {
             .filter(|step| in_tree(step.old))
             .map(|step| (tree.level(step.old), step.staged))
             .collect();
-        // Both grants have the same lists.
+        // All grants have the same lists.
         let kind = match kind {
-            Kind::GrantPages => Kind::GrantLevel,
+            Kind::GrantPages | Kind::Admit => Kind::GrantLevel,
             _ => kind,
         };
         count((kind, list));
@@ -66,17 +83,35 @@ impl<S: Subject> Subject for Watched<S> {
         self.0.reach()
     }
 
-    fn open(&mut self, height: u32, table: &mut [u8]) -> u32 {
-        self.0.open(height, table)
+    fn open(&mut self, height: u32, table: &mut [u8], line: &mut [u8]) -> u32 {
+        self.0.open(height, table, line)
     }
 
-    fn grant_level(&mut self, height: u32, table: &mut [u8], moves: &mut [u8], tenant: u32, level: u32) -> Reply {
-        let reply = self.0.grant_level(height, table, moves, tenant, level);
+    fn grant_level(
+        &mut self,
+        height: u32,
+        table: &mut [u8],
+        line: &mut [u8],
+        moves: &mut [u8],
+        tenant: u32,
+        level: u32,
+    ) -> Reply {
+        let reply = self.0.grant_level(height, table, line, moves, tenant, level);
+        note_line(Kind::GrantLevel, line, reply.answer);
         note(Kind::GrantLevel, height, moves, reply)
     }
 
-    fn grant_pages(&mut self, height: u32, table: &mut [u8], moves: &mut [u8], tenant: u32, pages: u32) -> Reply {
-        let reply = self.0.grant_pages(height, table, moves, tenant, pages);
+    fn grant_pages(
+        &mut self,
+        height: u32,
+        table: &mut [u8],
+        line: &mut [u8],
+        moves: &mut [u8],
+        tenant: u32,
+        pages: u32,
+    ) -> Reply {
+        let reply = self.0.grant_pages(height, table, line, moves, tenant, pages);
+        note_line(Kind::GrantPages, line, reply.answer);
         note(Kind::GrantPages, height, moves, reply)
     }
 
@@ -88,6 +123,26 @@ impl<S: Subject> Subject for Watched<S> {
     fn grow(&mut self, height: u32, table: &mut [u8], moves: &mut [u8], tenant: u32, level: u32) -> Reply {
         let reply = self.0.grow(height, table, moves, tenant, level);
         note(Kind::Grow, height, moves, reply)
+    }
+
+    fn join(&mut self, height: u32, table: &[u8], line: &mut [u8], tenant: u32, level: u32) -> u32 {
+        let answer = self.0.join(height, table, line, tenant, level);
+        note_line(Kind::Join, line, answer);
+        note_answer(Kind::Join, height, answer);
+        answer
+    }
+
+    fn admit(&mut self, height: u32, table: &mut [u8], line: &mut [u8], moves: &mut [u8]) -> Reply {
+        let reply = self.0.admit(height, table, line, moves);
+        note_line(Kind::Admit, line, reply.answer);
+        note(Kind::Admit, height, moves, reply)
+    }
+
+    fn withdraw(&mut self, height: u32, table: &[u8], line: &mut [u8], tenant: u32) -> u32 {
+        let answer = self.0.withdraw(height, table, line, tenant);
+        note_line(Kind::Withdraw, line, answer);
+        note_answer(Kind::Withdraw, height, answer);
+        answer
     }
 
     fn node_pages(&mut self, height: u32, node: Node) -> Pages {

@@ -4,8 +4,8 @@ use std::fmt::{self, Display};
 
 use oracle::book::Book;
 use oracle::compare::{same_count, same_history, same_pages, same_readings, same_written, shortened, Failure};
-use oracle::definitions::Node;
-use oracle::generate::{seat, History};
+use oracle::definitions::{Node, Tree};
+use oracle::generate::{History, Start};
 use oracle::journal::{Reading, Record, LONGEST};
 use oracle::page_map::MAP_BYTES;
 use oracle::shrink::shorten;
@@ -13,7 +13,7 @@ use oracle::subject::{Oracle, Subject, MOVE_BYTES};
 
 use crate::bytes::Bytes;
 use crate::spoilt::Spoilt;
-use crate::tape::Tape;
+use crate::tape::{Known, Tape};
 
 /// Longer journals are read this far from either end only.
 const NEAR_AN_END: usize = 1024;
@@ -22,7 +22,7 @@ const NEAR_AN_END: usize = 1024;
 pub const MAP_LENGTHS: [usize; 6] = [0, 1, MAP_BYTES - 1, MAP_BYTES + 1, MAP_BYTES + 8, 2 * MAP_BYTES];
 
 pub enum Programme {
-    /// Calls from an opening or from a table in order, with the book kept beside them.
+    /// Calls from an opening or from a table and a line in order, with the book kept beside them.
     History(History),
     Spoilt(Spoilt),
     /// A journal to read at its offsets.
@@ -38,16 +38,18 @@ pub enum Programme {
 impl Programme {
     pub fn decode(input: &[u8]) -> Self {
         let mut tape = Tape::new(input);
-        match tape.below(9) {
+        match tape.below(11) {
             0..=2 => Programme::History(history(&mut tape)),
-            3 | 4 => Programme::Spoilt(Spoilt::decode(&mut tape)),
+            3 | 4 => Programme::Spoilt(Spoilt::with_table(&mut tape)),
             5 => Programme::Journal(journal(tape)),
             6 => Programme::Map(Bytes {
                 length: Some(tape.mostly(MAP_BYTES, &MAP_LENGTHS)),
                 period: tape.rest().to_vec(),
             }),
             7 => Programme::Records(records(&mut tape)),
-            _ => Programme::Nodes(nodes(&mut tape)),
+            8 => Programme::Nodes(nodes(&mut tape)),
+            9 => Programme::History(history_beside_a_line(&mut tape)),
+            _ => Programme::Spoilt(Spoilt::with_line(&mut tape)),
         }
     }
 
@@ -125,16 +127,30 @@ impl Display for Programme {
 
 fn history(tape: &mut Tape) -> History {
     let tree = tape.tree();
-    let start = tape.holders(tree);
+    let start = tape.holders(tree).map(|holders| Start::held_by(&holders));
+    history_from(tape, tree, start)
+}
+
+fn history_beside_a_line(tape: &mut Tape) -> History {
+    let tree = tape.tree();
+    let start = tape.start(tree);
+    history_from(tape, tree, Some(start))
+}
+
+fn history_from(tape: &mut Tape, tree: Tree, start: Option<Start>) -> History {
     let mut book = match &start {
         None => Book::new(tree),
-        Some(holders) => Book::of_table(tree, &seat(tree, holders)),
+        Some(start) => start.book(tree),
     };
     let mut calls = Vec::new();
     while !tape.is_at_end() {
-        let call = tape.call(tree, |tenant| book.level_of(tenant).is_some());
-        let answer = book.answer(call.request, call.move_bytes / MOVE_BYTES);
-        book.enter(call.request, answer);
+        let known = Known {
+            holders: book.holders(),
+            waiting: book.waiting(),
+        };
+        let call = tape.call(tree, &known);
+        let due = book.due(call.request, call.move_bytes / MOVE_BYTES);
+        book.enter(call.request, due);
         calls.push(call);
     }
     History {
@@ -159,7 +175,7 @@ fn journal(mut tape: Tape) -> Bytes {
 fn records(tape: &mut Tape) -> Vec<(Record, usize)> {
     let mut records = Vec::new();
     while !tape.is_at_end() {
-        let kind = tape.below(5);
+        let kind = tape.below(8);
         let length = tape.below(8) as usize;
         let record = match kind {
             0 => Record::Open { height: tape.byte() },
@@ -172,10 +188,16 @@ fn records(tape: &mut Tape) -> Vec<(Record, usize)> {
                 pages: tape.word(),
             },
             3 => Record::Release { tenant: tape.word() },
-            _ => Record::Grow {
+            4 => Record::Grow {
                 tenant: tape.word(),
                 level: tape.byte(),
             },
+            5 => Record::Join {
+                tenant: tape.word(),
+                level: tape.byte(),
+            },
+            6 => Record::Admit,
+            _ => Record::Withdraw { tenant: tape.word() },
         };
         records.push((record, length));
     }

@@ -1,7 +1,8 @@
 //! The bytes of an input, read from the front.
 
-use oracle::definitions::{Tree, TALLEST};
-use oracle::generate::{Call, Holder};
+use oracle::definitions::{Node, Tree, TALLEST};
+use oracle::generate::{Call, Holder, Start};
+use oracle::line::{Waiting, MOST_PASSED, MOST_WAITING};
 use oracle::planner::{Request, TENANTS};
 use oracle::subject::fewest_move_bytes;
 
@@ -10,6 +11,34 @@ const LIST_LENGTHS: [usize; 16] = [0, 1, 8, 16, 24, 30, 32, 31, 33, 40, 48, 55, 
 
 /// Tenants about the largest number that there is, and about the ends of 16 bits.
 const TENANTS_AT_THE_EDGE: [u32; 8] = [4094, 4095, 4096, 4097, 0x1fff, 0x7fff, 0x8000, 0xffff];
+
+/// The tenants that hold a block, and those that wait for one.
+pub struct Known {
+    pub holders: Vec<u32>,
+    pub waiting: Vec<u32>,
+}
+
+impl Known {
+    /// Those who have an entry in a table, and those in line.
+    pub fn in_table(table: &[Node], line: &[Waiting]) -> Self {
+        let held = (0..).zip(table).filter(|&(_, &node)| node != 0);
+        Known {
+            holders: held.map(|(tenant, _)| tenant).collect(),
+            waiting: line.iter().map(|waiting| waiting.tenant.into()).collect(),
+        }
+    }
+
+    /// One of those who neither hold a block nor wait, by its place.
+    fn newcomer(&self, place: usize) -> Option<u32> {
+        let mut is_known = [false; TENANTS];
+        for &tenant in self.holders.iter().chain(&self.waiting) {
+            is_known[tenant as usize] = true;
+        }
+        (0..TENANTS as u32)
+            .filter(|&tenant| !is_known[tenant as usize])
+            .nth(place)
+    }
+}
 
 /// Past its end the tape has zeros, so every input is a programme. Numbers that only lead to a refusal are kept rare:
 /// a byte stands for a sensible number unless it is large.
@@ -87,19 +116,37 @@ impl<'a> Tape<'a> {
         Some((0..).zip(levels).map(holder).collect())
     }
 
-    /// A newcomer, a holder, a small number or one at the edge.
-    pub fn tenant(&mut self, holds: impl Fn(u32) -> bool) -> u32 {
+    /// Holders as above, and those who wait behind them: up to seven times so many as are named who wait for a level and were
+    /// passed so often, 255 being as many as there are places. They are the highest of those who hold nothing.
+    pub fn start(&mut self, tree: Tree) -> Start {
+        let mut start = Start::held_by(&self.holders(tree).unwrap_or_default());
+        let mut others = start.others();
+        for _ in 0..self.below(8) {
+            let level = self.below(tree.height() + 1);
+            let passed = self.below(MOST_PASSED + 1);
+            let places = others.len().min(MOST_WAITING - start.waiting.len());
+            let number = match self.byte() {
+                255 => places,
+                number => usize::from(number).min(places),
+            };
+            let tenants = others.drain(others.len() - number..);
+            start
+                .waiting
+                .extend(tenants.map(|tenant| Waiting { tenant, level, passed }));
+        }
+        start
+    }
+
+    /// A newcomer, a holder, a small number, or one in line or at the edge.
+    pub fn tenant(&mut self, known: &Known) -> u32 {
         let byte = self.byte();
         let place = usize::from(byte % 64);
-        let all = 0..TENANTS as u32;
+        let of = |tenants: &[u32], places: usize| tenants.get(place * tenants.len() / places).copied();
         match byte / 64 {
-            0 => all.filter(|&tenant| !holds(tenant)).nth(place).unwrap_or(0),
-            1 => {
-                let holders: Vec<u32> = all.filter(|&tenant| holds(tenant)).collect();
-                holders.get(place * holders.len() / 64).copied().unwrap_or(0)
-            }
+            0 => known.newcomer(place).unwrap_or(0),
+            1 => of(&known.holders, 64).unwrap_or(0),
             2 => place as u32,
-            _ => TENANTS_AT_THE_EDGE[place % TENANTS_AT_THE_EDGE.len()],
+            _ => of(&known.waiting, 32).unwrap_or(TENANTS_AT_THE_EDGE[place % TENANTS_AT_THE_EDGE.len()]),
         }
     }
 
@@ -126,10 +173,13 @@ impl<'a> Tape<'a> {
         }
     }
 
-    /// A grant, a release or a growth with the list that is lent for it: two or three bytes.
-    pub fn call(&mut self, tree: Tree, holds: impl Fn(u32) -> bool) -> Call {
+    /// A call with the list that is lent for it: up to three bytes. A quarter of them are of the line.
+    pub fn call(&mut self, tree: Tree, known: &Known) -> Call {
         let byte = self.byte();
-        let tenant = self.tenant(holds);
+        if byte / 64 == 2 {
+            return self.call_of_line(byte, tree, known);
+        }
+        let tenant = self.tenant(known);
         let request = match byte % 4 {
             0 => Request::GrantLevel {
                 tenant,
@@ -150,5 +200,24 @@ impl<'a> Tape<'a> {
             Some(place) => LIST_LENGTHS[place],
         };
         Call { request, move_bytes }
+    }
+
+    /// A join, an admit or a withdrawal; now and then an admit with a list of any length.
+    fn call_of_line(&mut self, byte: u8, tree: Tree, known: &Known) -> Call {
+        let request = match byte % 4 {
+            0 => Request::Join {
+                tenant: self.tenant(known),
+                level: self.level(tree),
+            },
+            1 => Request::Withdraw {
+                tenant: self.tenant(known),
+            },
+            _ => Request::Admit,
+        };
+        let mut call = Call::with_shortest_list(request);
+        if byte % 4 == 3 {
+            call.move_bytes = LIST_LENGTHS[usize::from(byte / 4) % LIST_LENGTHS.len()];
+        }
+        call
     }
 }

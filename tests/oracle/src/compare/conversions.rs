@@ -224,13 +224,17 @@ fn with_all_fields(height: u8) -> Vec<u8> {
             journal.extend(Record::Grow { tenant, level }.bytes());
             journal.extend(Record::Release { tenant }.bytes());
             journal.extend(Record::Grow { tenant, level }.bytes());
+            journal.extend(Record::Join { tenant, level }.bytes());
+            journal.extend(Record::Admit.bytes());
+            journal.extend(Record::Join { tenant, level }.bytes());
+            journal.extend(Record::Withdraw { tenant }.bytes());
         }
     }
     journal
 }
 
-/// An old journal with every kind of record, also of tenants that hold a block already, or hold none.
-const OLD: [u8; 58] = [
+/// An old journal with every kind of record that there is today, also of tenants that hold a block already, or hold none.
+const OLD: [u8; 69] = [
     1, 5, // open
     3, 7, 0, 0, 0, // one page for tenant 7
     2, 1, 0, 1, // level 1
@@ -245,13 +249,17 @@ const OLD: [u8; 58] = [
     3, 0, 16, 0, 0, // one page for a tenant that there is not
     5, 1, 0, 2, // growth to level 2
     5, 7, 0, 0, // growth of nothing
+    9, 8, 0, 0, // join
+    11, 7, 0,  // withdrawal of somebody who does not wait
+    10, // admit
+    11, 8, 0, // withdrawal of somebody who has been admitted
 ];
 
 /// The same journal with each byte replaced, with each left out, and cut at each length.
 fn spoilt_everywhere(converter: &mut dyn Converter, _: &Amounts, _: &mut Random) -> Result<usize, String> {
     let places = 0..OLD.len();
     let replaced = places.clone().flat_map(|place| {
-        [0, 1, 2, 3, 4, 5, 13, 200, 255].map(|value| {
+        [0, 1, 2, 3, 4, 5, 6, 9, 10, 11, 12, 13, 200, 255].map(|value| {
             let mut journal = OLD.to_vec();
             journal[place] = value;
             journal

@@ -1,17 +1,19 @@
 //! Arguments at and beside their bounds.
 
 use super::calls::{check_one, same_call, same_opening};
-use super::Amounts;
+use super::{Amounts, State};
 use crate::definitions::{Counts, Tree, TALLEST};
-use crate::generate::{any_fill, holders_for, Call};
+use crate::generate::{any_fill, holders_for, Call, Start};
 use crate::planner::{level_for_pages, Request, TENANTS};
 use crate::random::Random;
-use crate::subject::{fewest_move_bytes, Reach, Subject, MOVE_BYTES};
+use crate::subject::{fewest_move_bytes, Reach, Subject, LINE_BYTES, MOVE_BYTES, TABLE_BYTES};
 
-/// The lengths of table images worth trying.
+/// The lengths of the images of tables and of lines worth trying.
 const TABLE_LENGTHS: [usize; 7] = [0, 1, 8190, 8191, 8192, 8193, 8194];
+const LINE_LENGTHS: [usize; 7] = [0, 1, 384, 385, 386, 387, 388];
 
-/// Every argument at and beside its bounds, in all combinations, on an empty table and on a spoilt one.
+/// Every argument at and beside its bounds, in all combinations: on an empty table and on a spoilt one, and with an empty line
+/// and with a spoilt one.
 pub fn edges(subject: &mut dyn Subject, _: &Amounts, _: &mut Random) -> Result<usize, String> {
     let mut comparisons = 0;
     let reach = subject.reach();
@@ -20,20 +22,44 @@ pub fn edges(subject: &mut dyn Subject, _: &Amounts, _: &mut Random) -> Result<u
         [0, 1, 5, 11, 12, 13, 14, 255, 0x100, 0x10c, 0x1_0000, 0x1_0005],
     );
     for height in heights {
-        for length in TABLE_LENGTHS {
-            for fill in [0, 0xff] {
-                let table = vec![fill; length];
-                let place = |finding| format!("  height {height}, {length} bytes of {fill} as table: {finding}");
-                same_opening(subject, height, &table).map_err(place)?;
+        for state in edge_states() {
+            let place = |finding| format!("  height {height}, {}: {finding}", show(&state));
+            same_opening(subject, height, &state).map_err(place)?;
+            comparisons += 1;
+            for call in edge_calls(reach, height) {
+                same_call(subject, height, &state, &call).map_err(|finding| place(format!("{call}: {finding}")))?;
                 comparisons += 1;
-                for call in edge_calls(reach, height) {
-                    same_call(subject, height, &table, &call).map_err(|finding| place(format!("{call}: {finding}")))?;
-                    comparisons += 1;
-                }
             }
         }
     }
     Ok(comparisons)
+}
+
+/// Tables and lines of all lengths, filled with one byte: all tables beside an empty line, all lines beside an empty table, and
+/// a few that are both of the wrong length or both spoilt.
+fn edge_states() -> Vec<State> {
+    let fills = [0, 0xff];
+    let filled = |length: usize| fills.map(|fill| vec![fill; length]);
+    let state = |table: Vec<u8>, line: Vec<u8>| State { table, line };
+    let (no_table, no_line) = (vec![0; TABLE_BYTES], vec![0; LINE_BYTES]);
+    let tables = TABLE_LENGTHS.into_iter().flat_map(filled);
+    let lines = LINE_LENGTHS.into_iter().flat_map(filled);
+    let both = [
+        state(vec![0; TABLE_BYTES - 1], vec![0; LINE_BYTES - 1]),
+        state(vec![0xff; TABLE_BYTES], vec![0xff; LINE_BYTES]),
+        // Each has the other's length.
+        state(no_line.clone(), no_table.clone()),
+    ];
+    tables
+        .map(|table| state(table, no_line.clone()))
+        .chain(lines.map(|line| state(no_table.clone(), line)))
+        .chain(both)
+        .collect()
+}
+
+fn show(state: &State) -> String {
+    let bytes = |image: &[u8]| format!("{} bytes of {}", image.len(), image.first().copied().unwrap_or(0));
+    format!("{} as table, {} as line", bytes(&state.table), bytes(&state.line))
 }
 
 fn edge_calls(reach: Reach, height: u32) -> Vec<Call> {
@@ -41,9 +67,10 @@ fn edge_calls(reach: Reach, height: u32) -> Vec<Call> {
     let tenants = up_to(reach.tenant, [0, 4095, 4096, 0xffff, 0x1_0000, 0x1_0fff]);
     let levels = up_to(reach.level, [0, height, height.saturating_add(1), 255, 0x100, 0x1_0000]);
     let pages = up_to(reach.pages, sizes_beside(pages_in_all));
-    let mut requests = Vec::new();
+    let mut requests = vec![Request::Admit];
     for tenant in tenants {
-        requests.push(Request::Release { tenant });
+        requests.extend([Request::Release { tenant }, Request::Withdraw { tenant }]);
+        requests.extend(levels.iter().map(|&level| Request::Join { tenant, level }));
         requests.extend(levels.iter().map(|&level| Request::GrantLevel { tenant, level }));
         requests.extend(levels.iter().map(|&level| Request::Grow { tenant, level }));
         requests.extend(pages.iter().map(|&pages| Request::GrantPages { tenant, pages }));
@@ -51,10 +78,15 @@ fn edge_calls(reach: Reach, height: u32) -> Vec<Call> {
     requests.into_iter().flat_map(with_lengths_beside).collect()
 }
 
-/// A request with the move lists worth trying: nothing, an entry or a byte too few, enough, and a byte more.
-pub(super) fn with_lengths_beside(request: Request) -> [Call; 5] {
-    let enough = fewest_move_bytes(request);
-    [0, enough - MOVE_BYTES, enough - 1, enough, enough + 1].map(|move_bytes| Call { request, move_bytes })
+/// A request with the move lists worth trying: nothing, an entry or a byte too few, enough, and a byte more; or with none if it
+/// takes none.
+pub(super) fn with_lengths_beside(request: Request) -> Vec<Call> {
+    let lengths = match fewest_move_bytes(request) {
+        0 => vec![0],
+        enough => vec![0, enough - MOVE_BYTES, enough - 1, enough, enough + 1],
+    };
+    let with = |move_bytes| Call { request, move_bytes };
+    lengths.into_iter().map(with).collect()
 }
 
 /// Sizes at and beside the number of pages that there are.
@@ -101,7 +133,7 @@ fn check_size(
     let mut comparisons = 0;
     for tenant in tenants.map(u32::from) {
         let call = Call::with_shortest_list(Request::GrantPages { tenant, pages });
-        check_one(subject, tree.height(), &holders, call)?;
+        check_one(subject, tree.height(), &Start::held_by(&holders), call)?;
         comparisons += 1;
     }
     Ok(comparisons)

@@ -3,7 +3,7 @@
 use super::calls::{check_one, holders_and_others, on_every_counts};
 use super::Amounts;
 use crate::definitions::{Node, Tree, TALLEST};
-use crate::generate::{growths, holders_for, Call, Holder, MOST_MOVED};
+use crate::generate::{growths, holders_for, Call, Holder, Start, MOST_MOVED};
 use crate::planner::Request;
 use crate::random::Random;
 use crate::subject::{Subject, FEWEST_MOVE_BYTES, FEWEST_MOVE_BYTES_TO_GROW, MOVE_BYTES};
@@ -43,8 +43,9 @@ pub fn lists(subject: &mut dyn Subject, _: &Amounts, random: &mut Random) -> Res
     for height in MOST_MOVED.height..=TALLEST {
         for _ in 0..NUMBERINGS {
             let holders = holders_for(random, &MOST_MOVED.counts);
+            let start = Start::held_by(&holders);
             for call in calls(&holders) {
-                check_one(subject, height, &holders, call)?;
+                check_one(subject, height, &start, call)?;
                 comparisons += 1;
             }
         }

@@ -2,7 +2,7 @@
 
 use super::lent::{pattern, Lent};
 use super::Amounts;
-use crate::generate::{damage_journal, journal, journal_of, noise, noise_of};
+use crate::generate::{admits_of, damage_journal, journal, journal_of, noise, noise_of};
 use crate::journal::{Reading, Record, LONGEST};
 use crate::random::Random;
 use crate::refusal::DONE;
@@ -39,6 +39,12 @@ pub fn records(subject: &mut dyn Subject, amounts: &Amounts, random: &mut Random
                 tenant: word,
                 level: byte,
             },
+            Record::Join {
+                tenant: word,
+                level: byte,
+            },
+            Record::Admit,
+            Record::Withdraw { tenant: word },
         ];
         // Long bytes are all the same to a record's fields, so a few records are enough there.
         let long = if round < 20 { &LONG[..] } else { &[] };
@@ -84,10 +90,10 @@ pub fn journals(subject: &mut dyn Subject, amounts: &Amounts, random: &mut Rando
 }
 
 /// The longest journals, those that are too long, and those that are wrong in more than one way. The long ones have records
-/// one after the other, or noise with a record of some kind at most offsets.
+/// one after the other, or one in each byte, or noise with a record of some kind at most offsets.
 fn journal_edges(subject: &mut dyn Subject, random: &mut Random) -> Result<usize, String> {
     let mut comparisons = 0;
-    let short: [&[u8]; 14] = [
+    let short: [&[u8]; 24] = [
         &[],
         &[0],
         &[1],
@@ -100,17 +106,27 @@ fn journal_edges(subject: &mut dyn Subject, random: &mut Random) -> Result<usize
         &[1, 0, 5],
         &[1, 0, 5, 0, 0],
         &[1, 0, 5, 0, 0, 0],
+        &[1, 0, 9, 0, 0],
+        &[1, 0, 9, 0, 0, 0],
+        &[1, 0, 10],
+        &[1, 0, 10, 0],
+        &[1, 0, 11, 0],
+        &[1, 0, 11, 0, 0],
+        &[1, 0, 6, 0],
+        &[1, 0, 7, 0, 0],
+        &[1, 0, 8, 0, 0, 0, 0],
         &[5, 0, 0, 0],
+        &[10],
         &[1, 1, 1, 1, 1],
     ];
     for bytes in short {
         comparisons += check_journal(subject, bytes)?;
     }
     for length in LONGEST - 1..=LONGEST + 2 {
-        for mut bytes in [journal_of(length), noise_of(random, length)] {
+        for mut bytes in [journal_of(length), admits_of(length), noise_of(random, length)] {
             bytes[0] = 1;
             comparisons += check_journal(subject, &bytes)?;
-            bytes[0] = 9;
+            bytes[0] = 200;
             comparisons += check_journal(subject, &bytes)?;
         }
     }

@@ -9,10 +9,14 @@ mod edges;
 mod growths;
 mod journals;
 mod lent;
+mod lines;
 mod maps;
 mod nodes;
 mod numbering;
 mod repeats;
+mod reserve;
+mod spoilt;
+mod state;
 
 use std::error::Error;
 use std::io::{self, Write};
@@ -21,10 +25,12 @@ use std::num::ParseIntError;
 use crate::random::Random;
 use crate::subject::Subject;
 
-pub use calls::{same_call, same_history, same_opening, shortened, show_table, table_with, Failure, Same};
+pub use calls::{same_call, same_history, same_opening, shortened, Failure, Same};
 pub use journals::{same_readings, same_written};
 pub use maps::{same_count, same_map};
 pub use nodes::same_pages;
+pub use spoilt::{show_table, table_with};
+pub use state::State;
 
 /// How much is tried, and from which seed.
 #[derive(Clone, Debug)]
@@ -45,6 +51,11 @@ pub struct Amounts {
     pub pairs: usize,
     /// Histories in which every grant is repeated.
     pub repetitions: usize,
+    /// Up to this height every counts vector is tried with every line of up to three.
+    pub tallest_for_all_lines: u32,
+    /// Histories with many in line.
+    pub long_lines: usize,
+    pub damaged_lines: usize,
 }
 
 impl Amounts {
@@ -68,6 +79,9 @@ impl Amounts {
             conversions: 200,
             pairs: 60,
             repetitions: 26,
+            tallest_for_all_lines: 2,
+            long_lines: 260,
+            damaged_lines: 1_300,
         }
     }
 
@@ -84,6 +98,9 @@ impl Amounts {
             conversions: 600,
             pairs: 600,
             repetitions: 130,
+            tallest_for_all_lines: 3,
+            long_lines: 2_600,
+            damaged_lines: 20_000,
         }
     }
 
@@ -98,6 +115,8 @@ impl Amounts {
             &mut self.conversions,
             &mut self.pairs,
             &mut self.repetitions,
+            &mut self.long_lines,
+            &mut self.damaged_lines,
         ] {
             *amount *= factor;
         }
@@ -115,12 +134,12 @@ pub struct Tally {
 /// One part of the comparison. It gives the number of comparisons, or what it found.
 type Part = fn(&mut dyn Subject, &Amounts, &mut Random) -> Result<usize, String>;
 
-const PARTS: [(&str, Part); 17] = [
+const PARTS: [(&str, Part); 22] = [
     ("edges of the arguments", edges::edges),
     ("every counts vector", calls::every_counts),
     ("histories", calls::histories),
     ("full reserves", calls::full_reserves),
-    ("damaged tables", calls::damaged_tables),
+    ("damaged tables", spoilt::damaged_tables),
     ("pairs of histories", calls::pairs),
     ("maps", maps::maps),
     ("journal records", journals::records),
@@ -133,6 +152,11 @@ const PARTS: [(&str, Part); 17] = [
     ("every grant to a holder", repeats::every_grant),
     ("grants to holders on all heights", repeats::on_all_heights),
     ("repeated grants in histories", repeats::in_histories),
+    ("every short line", lines::every_short_line),
+    ("long lines", lines::long_lines),
+    ("damaged lines", lines::damaged_lines),
+    ("orders of refusals", lines::orders_of_refusals),
+    ("large images in line", lines::large_images),
 ];
 
 /// The random numbers of one part, the same whichever parts ran before.

@@ -2,6 +2,7 @@
 
 use crate::definitions::Tree;
 use crate::generate::{seat, Holder};
+use crate::line;
 use crate::planner::{self, Lent, Request};
 
 /// The holders as they are, and with those whom a request moves numbered among themselves in every other order. A grant by
@@ -13,6 +14,7 @@ pub fn every_numbering(tree: Tree, holders: &[Holder], request: Request) -> Vec<
     let lent = Lent {
         height: tree.height(),
         table: &seat(tree, holders),
+        line: &line::EMPTY,
         entries: request.fewest_entries(),
     };
     let moves = planner::call(lent, request).moves;

@@ -1,22 +1,23 @@
 //! Grants to tenants that hold a block: all of them on small trees, some on every height, and histories in which every grant is
 //! repeated.
 
-use super::calls::{check_damaged, check_one, same_call, same_history, show_table};
+use super::calls::same_history;
 use super::edges::with_lengths_beside;
 use super::journals::same_listing;
 use super::lent::pattern;
-use super::Amounts;
-use crate::audit::is_in_order;
-use crate::book::Book;
-use crate::definitions::{Node, Tree, TALLEST};
+use super::reserve::Reserve;
+use super::spoilt::{show_table, Spoilt};
+use super::{Amounts, State};
+use crate::definitions::{Tree, TALLEST};
 use crate::generate::{
-    any_fill, holders_for, journal_with, pages_for, seat, with_repetitions, Call, Damage, History, Holder, Step,
+    any_fill, holders_for, journal_with, pages_for, with_repetitions, Call, Damage, History, Holder, Start, Step,
 };
+use crate::line;
 use crate::planner::Request;
 use crate::random::Random;
 use crate::refusal::DONE;
 use crate::shrink::shorten;
-use crate::subject::{table_image, Oracle, Reply, Subject, MOVE_BYTES};
+use crate::subject::{Oracle, Reply, Subject};
 
 /// Every counts vector of the small trees, with every grant to every holder: of every level, and of every number of pages.
 pub fn every_grant(subject: &mut dyn Subject, amounts: &Amounts, random: &mut Random) -> Result<usize, String> {
@@ -24,10 +25,10 @@ pub fn every_grant(subject: &mut dyn Subject, amounts: &Amounts, random: &mut Ra
     for tree in (0..=amounts.tallest_for_all_counts).map(Tree::new) {
         let sizes: Vec<u32> = (0..=tree.pages_in_all()).collect();
         for counts in tree.every_fitting_counts() {
-            let reserve = Reserve::new(tree, holders_for(random, &counts));
-            for holder in &reserve.holders {
+            let reserve = held_by(tree, holders_for(random, &counts));
+            for holder in &reserve.start.holders {
                 for request in grants(tree, holder.tenant.into(), &sizes) {
-                    reserve.check(subject, Call::with_shortest_list(request))?;
+                    check(subject, &reserve, Call::with_shortest_list(request))?;
                     comparisons += 1;
                 }
             }
@@ -43,59 +44,36 @@ fn grants(tree: Tree, tenant: u32, sizes: &[u32]) -> Vec<Request> {
     by_level.chain(by_pages).collect()
 }
 
-/// A reserve that somebody holds.
-struct Reserve {
-    tree: Tree,
-    holders: Vec<Holder>,
-    table: Vec<Node>,
-    image: Vec<u8>,
-    book: Book,
+fn held_by(tree: Tree, holders: Vec<Holder>) -> Reserve {
+    Reserve::new(tree, Start::held_by(&holders))
 }
 
-impl Reserve {
-    fn new(tree: Tree, holders: Vec<Holder>) -> Self {
-        let table = seat(tree, &holders);
-        Reserve {
-            tree,
-            image: table_image(&table),
-            book: Book::of_table(tree, &table),
-            holders,
-            table,
-        }
-    }
+fn one_of_each_level(reserve: &Reserve) -> Vec<Holder> {
+    let mut chosen = reserve.start.holders.clone();
+    chosen.dedup_by_key(|holder| holder.level);
+    chosen
+}
 
-    fn one_of_each_level(&self) -> Vec<Holder> {
-        let mut chosen = self.holders.clone();
-        chosen.dedup_by_key(|holder| holder.level);
-        chosen
-    }
-
-    /// Puts a holder's grant to both planners. Whatever they answer, nothing changes.
-    fn check(&self, subject: &mut dyn Subject, call: Call) -> Result<(), String> {
-        let Ok(same) = same_call(subject, self.tree.height(), &self.image, &call) else {
-            // The same once more, to show it with fewer holders.
-            return check_one(subject, self.tree.height(), &self.holders, call);
-        };
-        let due = self.due(&call);
-        let as_lent = same.table == self.image && same.moves == pattern(call.move_bytes);
-        ensure!(
-            same.reply == due && as_lent,
-            "{}: both reply {:?} to {call}, and {due:?} is due without any change",
-            show_table(self.tree, &self.table),
-            same.reply
-        );
-        Ok(())
-    }
-
-    /// By the book a holder's grant is refused, or the tenant has that level; then its node is answered.
-    fn due(&self, call: &Call) -> Reply {
-        let answer = self.book.answer(call.request, call.move_bytes / MOVE_BYTES);
-        let node = match answer {
-            DONE => self.table[call.request.tenant() as usize].into(),
-            _ => 0,
-        };
-        Reply { answer, node, moves: 0 }
-    }
+/// Puts a holder's grant to both planners. Whatever they answer, nothing changes; what is granted is the node that it has.
+fn check(subject: &mut dyn Subject, reserve: &Reserve, call: Call) -> Result<(), String> {
+    let same = reserve.same(subject, call)?;
+    let answer = reserve.due(&call).answer;
+    let node = match (answer, call.request.tenant()) {
+        (DONE, Some(tenant)) => reserve.table[tenant as usize].into(),
+        _ => 0,
+    };
+    let due = Reply {
+        node,
+        ..Reply::number(answer)
+    };
+    let as_lent = same.state == reserve.state && same.moves == pattern(call.move_bytes);
+    ensure!(
+        same.reply == due && as_lent,
+        "{}: both reply {:?} to {call}, and {due:?} is due without any change",
+        show_table(reserve.tree, &reserve.table),
+        same.reply
+    );
+    Ok(())
 }
 
 /// So many reserves of each height, filled to any degree.
@@ -110,12 +88,12 @@ pub fn on_all_heights(subject: &mut dyn Subject, _: &Amounts, random: &mut Rando
         sizes.dedup();
         for _ in 0..FILLS {
             let counts = any_fill(random, tree);
-            let reserve = Reserve::new(tree, holders_for(random, &counts));
-            for holder in reserve.one_of_each_level() {
+            let reserve = held_by(tree, holders_for(random, &counts));
+            for holder in one_of_each_level(&reserve) {
                 let grants = grants(tree, holder.tenant.into(), &sizes).into_iter();
                 let into_lists = repetitions(tree, holder).into_iter().flat_map(with_lengths_beside);
                 for call in grants.map(Call::with_shortest_list).chain(into_lists) {
-                    reserve.check(subject, call)?;
+                    check(subject, &reserve, call)?;
                     comparisons += 1;
                 }
             }
@@ -147,15 +125,15 @@ fn check_spoilt(subject: &mut dyn Subject, random: &mut Random, reserve: &Reserv
         if !damage.inflict(random, tree, &mut table) {
             continue;
         }
-        let in_order = is_in_order(tree, &table);
-        for Holder { tenant, .. } in reserve.one_of_each_level() {
+        let spoilt = Spoilt::new(tree, &table, &line::EMPTY);
+        for Holder { tenant, .. } in one_of_each_level(reserve) {
             let node = table[usize::from(tenant)];
             if !tree.nodes().contains(&node) {
                 continue;
             }
             let level = tree.level(node);
             for request in repetitions(tree, Holder { tenant, level }) {
-                check_damaged(subject, tree, &table, in_order, request)?;
+                spoilt.check(subject, request)?;
                 comparisons += 1;
             }
         }
@@ -199,14 +177,14 @@ fn check_steps(subject: &mut dyn Subject, height: u32, steps: &[Step]) -> Result
     Err(format!("{history}  {finding}"))
 }
 
-/// The repetitions leave the table that is left without them, and add nothing to the listing but their own lines.
+/// The repetitions leave the table and the line that are left without them, and add nothing to the listing but their own lines.
 fn same_steps(subject: &mut dyn Subject, height: u32, steps: &[Step]) -> Result<(), String> {
     let plain: Vec<Request> = steps.iter().map(|step| step.request).collect();
     let without = End::of(subject, height, &plain)?;
     let with = End::of(subject, height, &with_all(steps))?;
     ensure!(
-        with.table == without.table,
-        "without the repetitions the table is another"
+        with.state == without.state,
+        "without the repetitions table or line are others"
     );
     same_listing(
         without_repetitions(&with.listing, steps)?.as_bytes(),
@@ -216,7 +194,7 @@ fn same_steps(subject: &mut dyn Subject, height: u32, steps: &[Step]) -> Result<
 
 /// What a history comes to.
 struct End {
-    table: Vec<Node>,
+    state: State,
     listing: String,
 }
 
@@ -224,12 +202,12 @@ impl End {
     /// Runs requests from an opening on and lists them, with both planners.
     fn of(subject: &mut dyn Subject, height: u32, requests: &[Request]) -> Result<Self, String> {
         let history = History::of_requests(height, requests);
-        let table = same_history(subject, &history).map_err(|failure| failure.to_string())?;
+        let state = same_history(subject, &history).map_err(|failure| failure.to_string())?;
         let journal = journal_with(height as u8, requests);
         let listing = subject.list(&journal);
         same_listing(&listing, &Oracle.list(&journal))?;
         let listing = String::from_utf8(listing).map_err(|error| error.to_string())?;
-        Ok(End { table, listing })
+        Ok(End { state, listing })
     }
 }
 

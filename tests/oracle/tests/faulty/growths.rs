@@ -2,11 +2,12 @@
 
 use oracle::carrying::Move;
 use oracle::definitions::{Node, Tree};
+use oracle::line;
 use oracle::planner::{self, Lent, Request, FEWEST_ENTRIES};
 use oracle::refusal::{Refusal, DONE};
-use oracle::subject::{table_from, Oracle, Reply, Subject, MOVE_BYTES};
+use oracle::subject::{line_image, table_from, Images, Oracle, Reply, Subject, MOVE_BYTES};
 
-use super::{into_longer_list, refused, Wrong};
+use super::{into_longer_list, refused, right_reply, Wrong};
 
 /// The one mistake.
 #[derive(Clone, Copy, Debug, PartialEq, Eq)]
@@ -54,24 +55,23 @@ impl GrowthFault {
     ];
 
     /// What is done instead where the growth is to be refused.
-    pub fn instead(self, height: u32, table: &mut [u8], moves: &mut [u8], tenant: u32, level: u32) -> Option<Reply> {
+    pub fn instead(self, lent: &mut Images, tenant: u32, level: u32) -> Option<Reply> {
         let request = Request::Grow { tenant, level };
-        let due = Oracle.grow(height, &mut table.to_vec(), &mut moves.to_vec(), tenant, level);
-        if due.answer == DONE || due.answer <= Refusal::TableLength.number() {
+        let due = right_reply(lent, request);
+        if due.answer == DONE || due.answer <= Refusal::Length.number() {
             return None;
         }
         let is_due = |refusal: Refusal| due.answer == refusal.number();
-        let before = table_from(table);
-        let tree = Tree::new(height);
+        let before = table_from(lent.table);
+        let tree = Tree::new(lent.height);
         let node = before.get(tenant as usize).copied().unwrap_or(0);
         let keeps_it = Reply {
-            answer: DONE,
             node: node.into(),
-            moves: 0,
+            ..Reply::number(DONE)
         };
         match self {
-            GrowthFault::SixEntriesEnough if moves.len() / MOVE_BYTES == 6 => {
-                Some(into_longer_list(height, table, moves, request))
+            GrowthFault::SixEntriesEnough if lent.moves.len() / MOVE_BYTES == 6 => {
+                Some(into_longer_list(lent, request))
             }
             GrowthFault::SameLevelNeedsNoList
                 if is_due(Refusal::MoveEntries) && tree.nodes().contains(&node) && tree.level(node) == level =>
@@ -79,7 +79,8 @@ impl GrowthFault {
                 Some(keeps_it)
             }
             GrowthFault::NothingHeldTakenForAGrant if is_due(Refusal::HoldsNothing) => {
-                Some(Oracle.grant_level(height, table, moves, tenant, level))
+                let line = &mut line_image(&line::EMPTY);
+                Some(Oracle.grant_level(lent.height, lent.table, line, lent.moves, tenant, level))
             }
             GrowthFault::NoRoomBeforeNothingHeld
                 if is_due(Refusal::HoldsNothing) && pages_held(tree, &before) + (1 << level) > tree.pages_in_all() =>
@@ -89,7 +90,7 @@ impl GrowthFault {
             GrowthFault::NoRoomByThePagesBefore if is_due(Refusal::NoRoom) => Some(keeps_it),
             GrowthFault::RefusedOneIsReleased if is_due(Refusal::NoRoom) => {
                 let entry = 2 * tenant as usize;
-                table[entry..entry + 2].fill(0);
+                lent.table[entry..entry + 2].fill(0);
                 Some(due)
             }
             _ => None,
@@ -154,6 +155,7 @@ pub(super) fn call(tree: Tree, table: &[Node], request: Request) -> Option<Vec<N
     let lent = Lent {
         height: tree.height(),
         table,
+        line: &line::EMPTY,
         entries: FEWEST_ENTRIES,
     };
     let outcome = planner::call(lent, request);

@@ -1,8 +1,47 @@
 //! Planners that are right but for one mistake each, to see whether the driver notices.
 
+/// The methods in which some planners do not differ from the second planner.
+macro_rules! as_the_oracle {
+    () => {
+        fn count(&mut self, map: &[u8]) -> Count {
+            Oracle.count(map)
+        }
+
+        fn read(&mut self, journal: &[u8], offset: usize) -> Reading {
+            Oracle.read(journal, offset)
+        }
+
+        fn write(&mut self, record: &Record, lent: &mut [u8]) -> u32 {
+            Oracle.write(record, lent)
+        }
+
+        fn list(&mut self, journal: &[u8]) -> Vec<u8> {
+            Oracle.list(journal)
+        }
+    };
+}
+
+/// The calls of the line, where they do not differ from the second planner's.
+macro_rules! with_the_oracles_line {
+    () => {
+        fn join(&mut self, height: u32, table: &[u8], line: &mut [u8], tenant: u32, level: u32) -> u32 {
+            Oracle.join(height, table, line, tenant, level)
+        }
+
+        fn admit(&mut self, height: u32, table: &mut [u8], line: &mut [u8], moves: &mut [u8]) -> Reply {
+            Oracle.admit(height, table, line, moves)
+        }
+
+        fn withdraw(&mut self, height: u32, table: &[u8], line: &mut [u8], tenant: u32) -> u32 {
+            Oracle.withdraw(height, table, line, tenant)
+        }
+    };
+}
+
 pub mod growths;
 pub mod lists;
 pub mod repeats;
+pub mod waiting;
 
 use growths::{GrowthFault, Other};
 use lists::{ListFault, Tables};
@@ -14,7 +53,7 @@ use oracle::page_map::MAP_BYTES;
 use oracle::planner::Request;
 use oracle::refusal::{Refusal, DONE};
 use oracle::subject::{
-    ask, fewest_move_bytes, moves_from, put_moves, table_from, table_image, Count, Oracle, Pages, Reach, Reply,
+    ask, fewest_move_bytes, moves_from, put_moves, table_from, table_image, Count, Images, Oracle, Pages, Reach, Reply,
     Subject, MOVE_BYTES, TABLE_BYTES,
 };
 use repeats::RepeatFault;
@@ -100,6 +139,11 @@ pub enum Fault {
     OneOffsetMisread,
     GrowthUnknown,
     GrowthWrittenWithoutItsLevel,
+    JoinUnknown,
+    AdmitReadWithABody,
+    WithdrawalReadAsRelease,
+    KindsBetweenTaken,
+    JoinWrittenAsGrant,
     // The listing.
     LineForTheRefusedOpening,
     RefusedCallsLeftOut,
@@ -109,6 +153,10 @@ pub enum Fault {
     GrowthListedAsGrant,
     GrowthListedWithoutItsLevel,
     FourEntriesLentToGrow,
+    NobodyListedWithoutNode,
+    AdmitListedWithItsLevel,
+    JoinListedWithANode,
+    WithdrawalListedAsRelease,
 }
 
 impl Fault {
@@ -176,7 +224,7 @@ impl Fault {
         Fault::HighBitShiftedOut,
         Fault::ShortMapCounted,
     ];
-    pub const JOURNALS: [Fault; 13] = [
+    pub const JOURNALS: [Fault; 18] = [
         Fault::FirstKindBeforeLength,
         Fault::EndBeforeTheWholeJournal,
         Fault::LengthLeftOut,
@@ -190,8 +238,13 @@ impl Fault {
         Fault::OneOffsetMisread,
         Fault::GrowthUnknown,
         Fault::GrowthWrittenWithoutItsLevel,
+        Fault::JoinUnknown,
+        Fault::AdmitReadWithABody,
+        Fault::WithdrawalReadAsRelease,
+        Fault::KindsBetweenTaken,
+        Fault::JoinWrittenAsGrant,
     ];
-    pub const LISTINGS: [Fault; 8] = [
+    pub const LISTINGS: [Fault; 12] = [
         Fault::LineForTheRefusedOpening,
         Fault::RefusedCallsLeftOut,
         Fault::ZeroForNoNode,
@@ -200,6 +253,10 @@ impl Fault {
         Fault::GrowthListedAsGrant,
         Fault::GrowthListedWithoutItsLevel,
         Fault::FourEntriesLentToGrow,
+        Fault::NobodyListedWithoutNode,
+        Fault::AdmitListedWithItsLevel,
+        Fault::JoinListedWithANode,
+        Fault::WithdrawalListedAsRelease,
     ];
 }
 
@@ -207,11 +264,18 @@ impl Fault {
 pub struct Faulty(pub Fault);
 
 fn refused(refusal: Refusal) -> Reply {
-    Reply {
-        answer: refusal.number(),
-        node: 0,
-        moves: 0,
-    }
+    Reply::number(refusal.number())
+}
+
+/// What the second planner replies, with nothing written.
+fn right_reply(lent: &Images, request: Request) -> Reply {
+    let mut unwritten = Images {
+        height: lent.height,
+        table: &mut lent.table.to_vec(),
+        line: &mut lent.line.to_vec(),
+        moves: &mut lent.moves.to_vec(),
+    };
+    ask(&mut Oracle, &mut unwritten, request)
 }
 
 /// The table before a call and its request, with what somebody makes of them.
@@ -223,7 +287,8 @@ struct Wrong<'a> {
 
 impl Wrong<'_> {
     fn tenant(&self) -> usize {
-        self.request.tenant() as usize
+        let tenant = self.request.tenant();
+        tenant.expect("a call that names its tenant") as usize
     }
 
     /// Makes a table the outcome: writes it, and the right list of moves to it if there can be one.
@@ -238,9 +303,9 @@ impl Wrong<'_> {
             node => node,
         };
         Reply {
-            answer: DONE,
             node: node.into(),
             moves: list.len() as u32,
+            ..Reply::number(DONE)
         }
     }
 
@@ -355,70 +420,89 @@ fn half_empty_lifted(tree: Tree, counts: &Counts) -> Vec<Node> {
 }
 
 /// Asks the second planner with a list that is long enough, of which as much is handed back as was lent.
-fn into_longer_list(height: u32, table: &mut [u8], moves: &mut [u8], request: Request) -> Reply {
-    let mut longer = moves.to_vec();
-    longer.resize(fewest_move_bytes(request), 0);
-    let reply = ask(&mut Oracle, height, table, &mut longer, request);
-    moves.copy_from_slice(&longer[..moves.len()]);
+fn into_longer_list(lent: &mut Images, request: Request) -> Reply {
+    let mut longer = lent.moves.to_vec();
+    longer.resize(fewest_move_bytes(request).max(longer.len()), 0);
+    let mut with_longer = Images {
+        height: lent.height,
+        table: lent.table,
+        line: lent.line,
+        moves: &mut longer,
+    };
+    let reply = ask(&mut Oracle, &mut with_longer, request);
+    lent.moves.copy_from_slice(&longer[..lent.moves.len()]);
     reply
 }
 
 impl Faulty {
-    fn plan(&self, height: u32, table: &mut [u8], moves: &mut [u8], request: Request) -> Reply {
-        if let Some(reply) = self.wrong_before(height, table, moves, request) {
+    fn plan(&self, mut lent: Images, request: Request) -> Reply {
+        if let Some(reply) = self.wrong_before(&mut lent, request) {
             return reply;
         }
-        let before = table_from(table);
-        let lent_moves = moves.to_vec();
-        let reply = ask(&mut Oracle, height, table, moves, request);
+        let before = table_from(lent.table);
+        let lent_moves = lent.moves.to_vec();
+        let reply = ask(&mut Oracle, &mut lent, request);
         if reply.answer == DONE {
             let wrong = Wrong {
-                tree: Tree::new(height),
+                tree: Tree::new(lent.height),
                 before: &before,
                 request,
             };
-            self.wrong_when_done(&wrong, table, moves, &lent_moves, reply)
+            self.wrong_when_done(&wrong, lent.table, lent.moves, &lent_moves, reply)
         } else {
-            self.wrong_when_refused(moves, request, reply)
+            self.wrong_when_refused(lent.moves, request, reply)
         }
     }
 
     /// Mistakes in the arguments and in the order of the checks.
-    fn wrong_before(&self, height: u32, table: &mut [u8], moves: &mut [u8], request: Request) -> Option<Reply> {
-        let reserve_is_fine = height <= 12 && table.len() == TABLE_BYTES;
-        let list_is_fine = moves.len() >= fewest_move_bytes(request);
-        let tenant = request.tenant();
+    fn wrong_before(&self, lent: &mut Images, request: Request) -> Option<Reply> {
+        let reserve_is_fine = lent.height <= 12 && lent.table.len() == TABLE_BYTES;
+        let list_is_fine = lent.moves.len() >= fewest_move_bytes(request);
+        let tenant = request.tenant()?;
         let reply = match (self.0, request) {
             (Fault::TenantBeforeTheList, _) if reserve_is_fine && tenant > 4095 => refused(Refusal::Tenant),
             (Fault::TenantCutToTwelveBits, Request::Release { tenant }) if tenant > 0xffff => {
                 let tenant = tenant & 0xfff;
-                ask(&mut Oracle, height, table, moves, Request::Release { tenant })
+                ask(&mut Oracle, lent, Request::Release { tenant })
             }
             (Fault::PagesBeforeTheTenant, Request::GrantPages { pages, .. })
-                if reserve_is_fine && list_is_fine && pages >= 1 << height =>
+                if reserve_is_fine && list_is_fine && pages >= 1 << lent.height =>
             {
                 refused(Refusal::Pages)
             }
             (_, Request::GrantPages { tenant, pages }) if reserve_is_fine && Fault::SIZES.contains(&self.0) => {
-                let request = self.other_size(height, tenant, pages);
-                ask(&mut Oracle, height, table, moves, request)
+                let request = self.other_size(lent.height, tenant, pages);
+                ask(&mut Oracle, lent, request)
             }
-            (Fault::LongerTableTaken, _) if table.len() > TABLE_BYTES => {
-                ask(&mut Oracle, height, &mut table[..TABLE_BYTES], moves, request)
+            (Fault::LongerTableTaken, _) if lent.table.len() > TABLE_BYTES => {
+                let mut cut = Images {
+                    height: lent.height,
+                    table: &mut lent.table[..TABLE_BYTES],
+                    line: lent.line,
+                    moves: lent.moves,
+                };
+                ask(&mut Oracle, &mut cut, request)
             }
-            (Fault::LongerMoveListRefused, _) if !moves.len().is_multiple_of(MOVE_BYTES) => {
-                ask(&mut Oracle, height, table, &mut [], request)
+            (Fault::LongerMoveListRefused, _) if !lent.moves.len().is_multiple_of(MOVE_BYTES) => {
+                let mut without_list = Images {
+                    height: lent.height,
+                    table: lent.table,
+                    line: lent.line,
+                    moves: &mut [],
+                };
+                ask(&mut Oracle, &mut without_list, request)
             }
-            (Fault::ThreeEntriesTaken, _) if moves.len() / MOVE_BYTES == 3 && !request.is_growth() => {
-                into_longer_list(height, table, moves, request)
+            (Fault::ThreeEntriesTaken, _) if lent.moves.len() / MOVE_BYTES == 3 && !request.is_growth() => {
+                into_longer_list(lent, request)
             }
-            (Fault::TallerTreeTaken, _) if height == 13 => ask(&mut Oracle, 12, table, moves, request),
-            (Fault::Growth(fault), Request::Grow { tenant, level }) => {
-                return fault.instead(height, table, moves, tenant, level)
+            (Fault::TallerTreeTaken, _) if lent.height == 13 => {
+                lent.height = 12;
+                ask(&mut Oracle, lent, request)
             }
-            (Fault::Repeat(fault), _) if request.is_grant() => return fault.instead(height, table, moves, request),
-            (Fault::HoldingsBeforeTheTable, _) => return self.holdings_first(height, table, moves, request),
-            (Fault::LegalTakenForSafe, _) => return self.legal_is_enough(height, table, moves, request),
+            (Fault::Growth(fault), Request::Grow { tenant, level }) => return fault.instead(lent, tenant, level),
+            (Fault::Repeat(fault), _) if request.is_grant() => return fault.instead(lent, request),
+            (Fault::HoldingsBeforeTheTable, _) => return self.holdings_first(lent, request),
+            (Fault::LegalTakenForSafe, _) => return self.legal_is_enough(lent, request),
             _ => return None,
         };
         Some(reply)
@@ -444,12 +528,11 @@ impl Faulty {
     }
 
     /// Looks at the tenant's own entry before the whole table.
-    fn holdings_first(&self, height: u32, table: &mut [u8], moves: &[u8], request: Request) -> Option<Reply> {
-        let reply = ask(&mut Oracle, height, &mut table.to_vec(), &mut moves.to_vec(), request);
-        if reply.answer != Refusal::Table.number() {
+    fn holdings_first(&self, lent: &Images, request: Request) -> Option<Reply> {
+        if right_reply(lent, request).answer != Refusal::Disorder.number() {
             return None;
         }
-        let holds = table_from(table)[request.tenant() as usize] != 0;
+        let holds = table_from(lent.table)[request.tenant()? as usize] != 0;
         match (request.is_grant(), holds) {
             (true, true) => Some(refused(Refusal::HoldsAlready)),
             (false, false) => Some(refused(Refusal::HoldsNothing)),
@@ -458,13 +541,13 @@ impl Faulty {
     }
 
     /// Takes every legal table, and releases from it.
-    fn legal_is_enough(&self, height: u32, table: &mut [u8], moves: &mut [u8], request: Request) -> Option<Reply> {
-        let reply = ask(&mut Oracle, height, &mut table.to_vec(), &mut moves.to_vec(), request);
-        if reply.answer != Refusal::Table.number() || !matches!(request, Request::Release { .. }) {
+    fn legal_is_enough(&self, lent: &mut Images, request: Request) -> Option<Reply> {
+        let is_due = right_reply(lent, request).answer == Refusal::Disorder.number();
+        if !is_due || !matches!(request, Request::Release { .. }) {
             return None;
         }
-        let tree = Tree::new(height);
-        let before = table_from(table);
+        let tree = Tree::new(lent.height);
+        let before = table_from(lent.table);
         let held: Vec<Node> = before.iter().copied().filter(|&node| node != 0).collect();
         if held.iter().any(|&node| node > tree.last_node()) || !is_legal(&held) {
             return None;
@@ -476,7 +559,9 @@ impl Faulty {
         };
         match before[wrong.tenant()] {
             0 => Some(refused(Refusal::HoldsNothing)),
-            _ => wrong.in_the_gap().map(|after| wrong.commit(&after, table, moves)),
+            _ => wrong
+                .in_the_gap()
+                .map(|after| wrong.commit(&after, lent.table, lent.moves)),
         }
     }
 
@@ -572,12 +657,33 @@ impl Faulty {
         }
     }
 
+    /// Mistakes about records that were read.
+    fn misread(&self, honest: Reading, offset: usize) -> Reading {
+        let Reading::Record { record, next } = honest else {
+            return honest;
+        };
+        let unknown = Reading::Refused {
+            number: Refusal::UnknownKind.number(),
+            offset,
+        };
+        match (self.0, record) {
+            (Fault::GrowthUnknown, Record::Grow { .. }) => unknown,
+            (Fault::JoinUnknown, Record::Join { .. }) => unknown,
+            (Fault::AdmitReadWithABody, Record::Admit) => Reading::Record { record, next: next + 2 },
+            (Fault::WithdrawalReadAsRelease, Record::Withdraw { tenant }) => Reading::Record {
+                record: Record::Release { tenant },
+                next,
+            },
+            _ => honest,
+        }
+    }
+
     /// Mistakes in what a refused call leaves behind.
     fn wrong_when_refused(&self, moves: &mut [u8], request: Request, reply: Reply) -> Reply {
         match self.0 {
             Fault::RefusalClearsTheList => moves.fill(0),
             Fault::RefusalReportsANode if reply.answer == Refusal::HoldsAlready.number() => {
-                let node = 1 + request.tenant();
+                let node = 1 + request.tenant().unwrap_or(0);
                 return Reply { node, ..reply };
             }
             _ => {}
@@ -587,39 +693,85 @@ impl Faulty {
 }
 
 impl Subject for Faulty {
-    fn open(&mut self, height: u32, table: &mut [u8]) -> u32 {
+    fn open(&mut self, height: u32, table: &mut [u8], line: &mut [u8]) -> u32 {
         match self.0 {
-            Fault::OpeningLeavesTheTable => Oracle.open(height, &mut table.to_vec()),
+            Fault::OpeningLeavesTheTable => Oracle.open(height, &mut table.to_vec(), line),
             Fault::OpeningWantsAnOrderlyTable => {
                 let mut map = [0; MAP_BYTES];
                 let answer = Oracle.draw(height, table, &mut map);
                 if answer == DONE {
-                    Oracle.open(height, table)
+                    Oracle.open(height, table, line)
                 } else {
                     answer
                 }
             }
-            Fault::LongerTableTaken if table.len() > TABLE_BYTES => Oracle.open(height, &mut table[..TABLE_BYTES]),
-            Fault::TallerTreeTaken if height == 13 => Oracle.open(12, table),
-            _ => Oracle.open(height, table),
+            Fault::LongerTableTaken if table.len() > TABLE_BYTES => {
+                Oracle.open(height, &mut table[..TABLE_BYTES], line)
+            }
+            Fault::TallerTreeTaken if height == 13 => Oracle.open(12, table, line),
+            _ => Oracle.open(height, table, line),
         }
     }
 
-    fn grant_level(&mut self, height: u32, table: &mut [u8], moves: &mut [u8], tenant: u32, level: u32) -> Reply {
-        self.plan(height, table, moves, Request::GrantLevel { tenant, level })
+    fn grant_level(
+        &mut self,
+        height: u32,
+        table: &mut [u8],
+        line: &mut [u8],
+        moves: &mut [u8],
+        tenant: u32,
+        level: u32,
+    ) -> Reply {
+        let lent = Images {
+            height,
+            table,
+            line,
+            moves,
+        };
+        self.plan(lent, Request::GrantLevel { tenant, level })
     }
 
-    fn grant_pages(&mut self, height: u32, table: &mut [u8], moves: &mut [u8], tenant: u32, pages: u32) -> Reply {
-        self.plan(height, table, moves, Request::GrantPages { tenant, pages })
+    fn grant_pages(
+        &mut self,
+        height: u32,
+        table: &mut [u8],
+        line: &mut [u8],
+        moves: &mut [u8],
+        tenant: u32,
+        pages: u32,
+    ) -> Reply {
+        let lent = Images {
+            height,
+            table,
+            line,
+            moves,
+        };
+        self.plan(lent, Request::GrantPages { tenant, pages })
     }
 
     fn release(&mut self, height: u32, table: &mut [u8], moves: &mut [u8], tenant: u32) -> Reply {
-        self.plan(height, table, moves, Request::Release { tenant })
+        let line = &mut [];
+        let lent = Images {
+            height,
+            table,
+            line,
+            moves,
+        };
+        self.plan(lent, Request::Release { tenant })
     }
 
     fn grow(&mut self, height: u32, table: &mut [u8], moves: &mut [u8], tenant: u32, level: u32) -> Reply {
-        self.plan(height, table, moves, Request::Grow { tenant, level })
+        let line = &mut [];
+        let lent = Images {
+            height,
+            table,
+            line,
+            moves,
+        };
+        self.plan(lent, Request::Grow { tenant, level })
     }
+
+    with_the_oracles_line!();
 
     fn node_pages(&mut self, height: u32, node: Node) -> Pages {
         let mut pages = Oracle.node_pages(height, node);
@@ -646,11 +798,11 @@ impl Subject for Faulty {
                 map[MAP_BYTES..].fill(0);
                 answer
             }
-            Fault::AnyTableDrawn if answer == Refusal::Table.number() && map.len() >= MAP_BYTES => {
+            Fault::AnyTableDrawn if answer == Refusal::Disorder.number() && map.len() >= MAP_BYTES => {
                 map[..MAP_BYTES].fill(0);
                 DONE
             }
-            Fault::MapBeforeTheTable if answer == Refusal::Table.number() && map.len() < MAP_BYTES => {
+            Fault::MapBeforeTheTable if answer == Refusal::Disorder.number() && map.len() < MAP_BYTES => {
                 Refusal::TooSmall.number()
             }
             _ => answer,
@@ -694,18 +846,14 @@ impl Subject for Faulty {
             }
             Fault::RefusalAtTheWrongOffset if is(Refusal::CutShort) => refused(Refusal::CutShort, journal.len()),
             Fault::OneOffsetMisread if offset == 43_210 => Oracle.read(journal, offset + 1),
-            Fault::GrowthUnknown
-                if matches!(
-                    honest,
-                    Reading::Record {
-                        record: Record::Grow { .. },
-                        ..
-                    }
-                ) =>
-            {
-                refused(Refusal::UnknownKind, offset)
+            Fault::KindsBetweenTaken if is(Refusal::UnknownKind) && matches!(journal[offset], 6..=8) => {
+                let record = Record::Admit;
+                Reading::Record {
+                    record,
+                    next: offset + 1,
+                }
             }
-            _ => honest,
+            _ => self.misread(honest, offset),
         }
     }
 
@@ -717,6 +865,7 @@ impl Subject for Faulty {
             (Fault::RestOfTheBytesCleared, _) if answer == DONE => lent[record.bytes().len()..].fill(0),
             (Fault::BytesFarBehindCleared, _) if lent.len() > 5_000 => lent[5_000..].fill(0),
             (Fault::GrowthWrittenWithoutItsLevel, Record::Grow { .. }) if answer == DONE => lent[3] = 0,
+            (Fault::JoinWrittenAsGrant, Record::Join { .. }) if answer == DONE => lent[0] = 2,
             _ => {}
         }
         answer
@@ -737,6 +886,10 @@ impl Subject for Faulty {
             Fault::GrowthListedAsGrant => honest.replace(" Z ", " G "),
             Fault::GrowthListedWithoutItsLevel => lines.map(without_the_level).collect(),
             Fault::FourEntriesLentToGrow => lines.map(refused_for_its_list).collect(),
+            Fault::NobodyListedWithoutNode => honest.replace(" A - - 0 0 0\n", " A - - 0 - 0\n"),
+            Fault::AdmitListedWithItsLevel => lines.map(with_a_level).collect(),
+            Fault::JoinListedWithANode => lines.map(with_node_0).collect(),
+            Fault::WithdrawalListedAsRelease => honest.replace(" X ", " R "),
             _ => honest,
         };
         wrong.into_bytes()
@@ -752,6 +905,24 @@ fn without_the_level(line: &str) -> String {
     fields.join(" ")
 }
 
+/// A line about an admit with a level instead of the hyphen.
+fn with_a_level(line: &str) -> String {
+    let mut fields: Vec<&str> = line.split(' ').collect();
+    if fields.get(1) == Some(&"A") && fields[2] != "-" {
+        fields[3] = "0";
+    }
+    fields.join(" ")
+}
+
+/// A line about a join that was accepted, with 0 as its node.
+fn with_node_0(line: &str) -> String {
+    let mut fields: Vec<&str> = line.split(' ').collect();
+    if fields.get(1) == Some(&"W") && fields[4] == "0" {
+        fields[5] = "0";
+    }
+    fields.join(" ")
+}
+
 /// A line about a growth that was lent too short a list.
 fn refused_for_its_list(line: &str) -> String {
     let fields: Vec<&str> = line.split(' ').collect();
@@ -761,39 +932,18 @@ fn refused_for_its_list(line: &str) -> String {
     }
 }
 
-/// The methods in which the planners below do not differ from the second planner.
-macro_rules! as_the_oracle {
-    () => {
-        fn count(&mut self, map: &[u8]) -> Count {
-            Oracle.count(map)
-        }
-
-        fn read(&mut self, journal: &[u8], offset: usize) -> Reading {
-            Oracle.read(journal, offset)
-        }
-
-        fn write(&mut self, record: &Record, lent: &mut [u8]) -> u32 {
-            Oracle.write(record, lent)
-        }
-
-        fn list(&mut self, journal: &[u8]) -> Vec<u8> {
-            Oracle.list(journal)
-        }
-    };
-}
-
 /// A planner that goes wrong only in one rare situation: a grant of a size of which just two blocks are held, unless it is
 /// repeated.
 pub struct ThirdOfItsSize;
 
 impl ThirdOfItsSize {
-    fn grant(&self, height: u32, table: &mut [u8], moves: &mut [u8], request: Request) -> Reply {
-        let before = table_from(table);
-        let reply = ask(&mut Oracle, height, table, moves, request);
-        if reply.answer != DONE || table_from(table) == before {
+    fn grant(&self, mut lent: Images, request: Request) -> Reply {
+        let before = table_from(lent.table);
+        let reply = ask(&mut Oracle, &mut lent, request);
+        if reply.answer != DONE || table_from(lent.table) == before {
             return reply;
         }
-        let tree = Tree::new(height);
+        let tree = Tree::new(lent.height);
         let level = level_wanted(tree, request);
         let same_size = |&&node: &&Node| node != 0 && Some(tree.level(node)) == level;
         match before.iter().filter(same_size).count() {
@@ -807,16 +957,44 @@ impl ThirdOfItsSize {
 }
 
 impl Subject for ThirdOfItsSize {
-    fn open(&mut self, height: u32, table: &mut [u8]) -> u32 {
-        Oracle.open(height, table)
+    fn open(&mut self, height: u32, table: &mut [u8], line: &mut [u8]) -> u32 {
+        Oracle.open(height, table, line)
     }
 
-    fn grant_level(&mut self, height: u32, table: &mut [u8], moves: &mut [u8], tenant: u32, level: u32) -> Reply {
-        self.grant(height, table, moves, Request::GrantLevel { tenant, level })
+    fn grant_level(
+        &mut self,
+        height: u32,
+        table: &mut [u8],
+        line: &mut [u8],
+        moves: &mut [u8],
+        tenant: u32,
+        level: u32,
+    ) -> Reply {
+        let lent = Images {
+            height,
+            table,
+            line,
+            moves,
+        };
+        self.grant(lent, Request::GrantLevel { tenant, level })
     }
 
-    fn grant_pages(&mut self, height: u32, table: &mut [u8], moves: &mut [u8], tenant: u32, pages: u32) -> Reply {
-        self.grant(height, table, moves, Request::GrantPages { tenant, pages })
+    fn grant_pages(
+        &mut self,
+        height: u32,
+        table: &mut [u8],
+        line: &mut [u8],
+        moves: &mut [u8],
+        tenant: u32,
+        pages: u32,
+    ) -> Reply {
+        let lent = Images {
+            height,
+            table,
+            line,
+            moves,
+        };
+        self.grant(lent, Request::GrantPages { tenant, pages })
     }
 
     fn release(&mut self, height: u32, table: &mut [u8], moves: &mut [u8], tenant: u32) -> Reply {
@@ -826,6 +1004,8 @@ impl Subject for ThirdOfItsSize {
     fn grow(&mut self, height: u32, table: &mut [u8], moves: &mut [u8], tenant: u32, level: u32) -> Reply {
         Oracle.grow(height, table, moves, tenant, level)
     }
+
+    with_the_oracles_line!();
 
     fn node_pages(&mut self, height: u32, node: Node) -> Pages {
         Oracle.node_pages(height, node)
@@ -859,28 +1039,34 @@ impl Subject for Narrow {
         }
     }
 
-    fn open(&mut self, height: u32, table: &mut [u8]) -> u32 {
-        Oracle.open(eight_bits(height), table)
+    fn open(&mut self, height: u32, table: &mut [u8], line: &mut [u8]) -> u32 {
+        Oracle.open(eight_bits(height), table, line)
     }
 
-    fn grant_level(&mut self, height: u32, table: &mut [u8], moves: &mut [u8], tenant: u32, level: u32) -> Reply {
-        Oracle.grant_level(
-            eight_bits(height),
-            table,
-            moves,
-            sixteen_bits(tenant),
-            eight_bits(level),
-        )
+    fn grant_level(
+        &mut self,
+        height: u32,
+        table: &mut [u8],
+        line: &mut [u8],
+        moves: &mut [u8],
+        tenant: u32,
+        level: u32,
+    ) -> Reply {
+        let (height, tenant, level) = (eight_bits(height), sixteen_bits(tenant), eight_bits(level));
+        Oracle.grant_level(height, table, line, moves, tenant, level)
     }
 
-    fn grant_pages(&mut self, height: u32, table: &mut [u8], moves: &mut [u8], tenant: u32, pages: u32) -> Reply {
-        Oracle.grant_pages(
-            eight_bits(height),
-            table,
-            moves,
-            sixteen_bits(tenant),
-            sixteen_bits(pages),
-        )
+    fn grant_pages(
+        &mut self,
+        height: u32,
+        table: &mut [u8],
+        line: &mut [u8],
+        moves: &mut [u8],
+        tenant: u32,
+        pages: u32,
+    ) -> Reply {
+        let (height, tenant, pages) = (eight_bits(height), sixteen_bits(tenant), sixteen_bits(pages));
+        Oracle.grant_pages(height, table, line, moves, tenant, pages)
     }
 
     fn release(&mut self, height: u32, table: &mut [u8], moves: &mut [u8], tenant: u32) -> Reply {
@@ -888,13 +1074,21 @@ impl Subject for Narrow {
     }
 
     fn grow(&mut self, height: u32, table: &mut [u8], moves: &mut [u8], tenant: u32, level: u32) -> Reply {
-        Oracle.grow(
-            eight_bits(height),
-            table,
-            moves,
-            sixteen_bits(tenant),
-            eight_bits(level),
-        )
+        let (height, tenant, level) = (eight_bits(height), sixteen_bits(tenant), eight_bits(level));
+        Oracle.grow(height, table, moves, tenant, level)
+    }
+
+    fn join(&mut self, height: u32, table: &[u8], line: &mut [u8], tenant: u32, level: u32) -> u32 {
+        let (height, tenant, level) = (eight_bits(height), sixteen_bits(tenant), eight_bits(level));
+        Oracle.join(height, table, line, tenant, level)
+    }
+
+    fn admit(&mut self, height: u32, table: &mut [u8], line: &mut [u8], moves: &mut [u8]) -> Reply {
+        Oracle.admit(eight_bits(height), table, line, moves)
+    }
+
+    fn withdraw(&mut self, height: u32, table: &[u8], line: &mut [u8], tenant: u32) -> u32 {
+        Oracle.withdraw(eight_bits(height), table, line, sixteen_bits(tenant))
     }
 
     fn node_pages(&mut self, height: u32, node: Node) -> Pages {

@@ -5,10 +5,10 @@ use oracle::carrying::Move;
 use oracle::definitions::{Node, Tree};
 use oracle::planner::Request;
 use oracle::refusal::{Refusal, DONE};
-use oracle::subject::{ask, put_moves, table_from, table_image, Oracle, Reply};
+use oracle::subject::{put_moves, table_from, table_image, Images, Reply};
 
 use super::growths::{call, grant, pages_held};
-use super::{into_longer_list, refused, Wrong};
+use super::{into_longer_list, refused, right_reply, Wrong};
 
 /// The one mistake.
 #[derive(Clone, Copy, Debug, PartialEq, Eq)]
@@ -61,23 +61,23 @@ impl RepeatFault {
     pub const TOO_EARLY: [RepeatFault; 2] = [RepeatFault::NotTheTable, RepeatFault::NotTheList];
 
     /// What is answered instead to a grant, if its tenant has a node of the tree.
-    pub fn instead(self, height: u32, table: &mut [u8], moves: &mut [u8], request: Request) -> Option<Reply> {
-        let due = ask(&mut Oracle, height, &mut table.to_vec(), &mut moves.to_vec(), request);
+    pub fn instead(self, lent: &mut Images, request: Request) -> Option<Reply> {
+        let due = right_reply(lent, request);
         let is_due = |refusal: Refusal| due.answer == refusal.number();
-        if is_due(Refusal::Height) || is_due(Refusal::TableLength) {
+        if is_due(Refusal::Height) || is_due(Refusal::Length) {
             return None;
         }
-        let grant = ToHolder::of(Tree::new(height), table_from(table), request)?;
+        let grant = ToHolder::of(Tree::new(lent.height), table_from(lent.table), request)?;
         let is_same = grant.held == grant.wanted;
         match self {
-            RepeatFault::NotTheTable => (is_due(Refusal::Table) && is_same).then_some(grant.kept()),
+            RepeatFault::NotTheTable => (is_due(Refusal::Disorder) && is_same).then_some(grant.kept()),
             RepeatFault::NotTheList => (is_due(Refusal::MoveEntries) && is_same).then_some(grant.kept()),
             RepeatFault::AnotherLevelGrows if is_due(Refusal::HoldsAlready) => {
-                let (tenant, level) = (request.tenant(), grant.wanted);
-                Some(into_longer_list(height, table, moves, Request::Grow { tenant, level }))
+                let (tenant, level) = (request.tenant()?, grant.wanted);
+                Some(into_longer_list(lent, Request::Grow { tenant, level }))
             }
             _ if is_due(Refusal::HoldsAlready) => self.other_level(&grant),
-            _ if due.answer == DONE => self.same_level(&grant, table, moves),
+            _ if due.answer == DONE => self.same_level(&grant, lent.table, lent.moves),
             _ => None,
         }
     }
@@ -138,6 +138,7 @@ struct ToHolder {
     tree: Tree,
     before: Vec<Node>,
     request: Request,
+    own: usize,
     node: Node,
     held: u32,
     wanted: u32,
@@ -147,7 +148,8 @@ struct ToHolder {
 
 impl ToHolder {
     fn of(tree: Tree, before: Vec<Node>, request: Request) -> Option<Self> {
-        let node = before.get(request.tenant() as usize).copied()?;
+        let own = request.tenant()? as usize;
+        let node = before.get(own).copied()?;
         if !tree.nodes().contains(&node) {
             return None;
         }
@@ -155,6 +157,7 @@ impl ToHolder {
             tree,
             before,
             request,
+            own,
             node,
             held: tree.level(node),
             wanted: level_wanted(tree, request)?,
@@ -168,14 +171,9 @@ impl ToHolder {
     /// The tenant keeps what it has.
     fn kept(&self) -> Reply {
         Reply {
-            answer: DONE,
             node: self.node.into(),
-            moves: 0,
+            ..Reply::number(DONE)
         }
-    }
-
-    fn own(&self) -> usize {
-        self.request.tenant() as usize
     }
 
     fn commit(&self, after: &[Node], table: &mut [u8], moves: &mut [u8]) -> Reply {
@@ -190,7 +188,7 @@ impl ToHolder {
     /// The others with a block of the same level, and their nodes.
     fn others(&self) -> impl Iterator<Item = (usize, Node)> + '_ {
         let entries = self.before.iter().copied().enumerate();
-        entries.filter(|&(tenant, node)| tenant != self.own() && node != 0 && self.tree.level(node) == self.held)
+        entries.filter(|&(tenant, node)| tenant != self.own && node != 0 && self.tree.level(node) == self.held)
     }
 
     fn has_no_room(&self) -> bool {
@@ -201,7 +199,7 @@ impl ToHolder {
     fn exchanged(&self) -> Option<Vec<Node>> {
         let (other, _) = self.others().next()?;
         let mut after = self.before.clone();
-        after.swap(self.own(), other);
+        after.swap(self.own, other);
         Some(after)
     }
 
@@ -215,7 +213,7 @@ impl ToHolder {
 
     fn move_to_itself(&self) -> Move {
         Move {
-            tenant: self.own() as u16,
+            tenant: self.own as u16,
             old: self.node,
             new: self.node,
             staged: false,
