@@ -35,7 +35,7 @@
  * release, growth, join or withdrawal, and after each admit that granted somebody, call reserve_admit, until it names nobody and
  * node 0. That is after at most 64 grants.
  *
- * Nobody waits for ever behind smaller images. Each grant that gives a block, by reserve_admit or direct, adds one to the passed
+ * Nobody is passed without end by smaller images. Each grant that gives a block, by reserve_admit or direct, adds one to the passed
  * count of every older tenant that still waits; a direct grant counts as last in line, so it passes everybody. Behind a tenant
  * that was passed eight times all are barred: an admit grants nobody behind it, and a direct grant is answered 10, even if its
  * block would fit. So nobody is passed more than eight times, and when an admit names nobody, the oldest that was passed eight
