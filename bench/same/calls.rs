@@ -60,10 +60,10 @@ fn place(
     Done { node, plan }
 }
 
-/// Grants the first in line that fits and is not barred, and names it; or gives the number of the refusal. Like the library it
-/// surveys the table to see who fits, and again for the grant.
+/// Grants the first in line that fits and is not barred, and names it; or gives the number of the refusal.
 pub fn admit(height: u16, table: &mut [u16; TENANTS], line: &mut Line) -> Result<Option<(u16, Done)>, u16> {
-    let counts = survey_with_line(height, table, line, &mut [0; NODES])?;
+    let mut owners = [0; NODES];
+    let counts = survey_with_line(height, table, line, &mut owners)?;
     let room = (1 << height) - total(&counts);
     let levels = room.checked_ilog2().map_or(0, |highest| highest as u16 + 1);
     let Some((in_line, tenant, level)) = line::choose(line, levels) else {
@@ -71,8 +71,6 @@ pub fn admit(height: u16, table: &mut [u16; TENANTS], line: &mut Line) -> Result
     };
     line::take_out(line, in_line);
     line::pass(line, in_line);
-    let mut owners = [0; NODES];
-    let counts = survey(height, table, &mut owners).ok_or(7u16)?;
     Ok(Some((tenant, place(height, table, tenant, level, counts, &owners))))
 }
 

@@ -5,7 +5,7 @@ use mathlib.Core.List.{List, [], _∷_, _++_, map}
 use mathlib.Core.Option.{some}
 use Prim.Native.Nat.{ℕ, suc, _+_, _-_, _^_, _≤_, _<_}
 use native.Mathlib.Omega.{arith}
-use borrow.Author.Tests.{ltb-true, ltb-false, lt-ltb, le-ltb, le-leb, lt-leb}
+use borrow.Author.Tests.{ltb-true, ltb-false, lt-ltb, le-ltb, le-leb, lt-leb, eq-eqb}
 use lib.Dec.{ltb, leb}
 use lib.ListN.{length, getD, take, drop, length-append, length-drop}
 use lib.Pow.{pow-pos, pow-mono}
@@ -13,16 +13,18 @@ use lib.Seq.{take-at, drop-at, length-take-le}
 use Rattle.tree.specs.Node.{depth}
 use Rattle.tree.proofs.Highest.{depth-highest}
 use Rattle.line.specs.Line.{Waiting, lineOf, at, waitingIn, waitingCount}
-use Rattle.line.specs.Order.{waits, Orderly, LineInOrder}
+use Rattle.line.specs.Order.{waits, MayWait, Orderly, LineInOrder}
 use Rattle.line.specs.Changes.{InForm, once-more, leave, choose, placeOf, placeChosen, front, without}
 use Rattle.line.proofs.Numbers.{length-standing, getD-waiting, read-of-line}
-use Rattle.line.proofs.Ordered.{in-form, line-of-orderly}
+use Rattle.line.proofs.Ordered.{orderly-at, in-form, line-of-orderly}
 use Rattle.line.proofs.Places.{waits-by-place, leave-by-place, withdraw-by-place, place-of-own, orderly-withdrawn, chosen-is, none-chosen}
+use Rattle.calls.specs.Call.{grant-level}
 use Rattle.calls.specs.Step.{Check, check, first}
 use Rattle.calls.specs.Value.{answerOf}
 use Rattle.calls.specs.declared.Answer.{Answer}
 use Rattle.calls.specs.declared.Answer.the-variants.{Refused}
 use Rattle.calls.proofs.Checks.{Numbered}
+use Rattle.calls.proofs.Calling.{arguments}
 use Rattle.admission.specs.Call.{State, admit}
 use Rattle.admission.specs.Step.{Outcome, refused, reserve-checks, fits, admission, step}
 use Rattle.admission.specs.Value.{lent, GivesAdmitted}
@@ -74,6 +76,19 @@ module _ (h : ℕ) (T L : List ℕ) (o : LineInOrder h T L) (k : ℕ) (p : k < w
 
   own-place : placeOf t W ≡ k
   own-place = rw own at (place-of-own h T W (o .orderly) k (at L k) inside)
+
+  may-wait : MayWait h T (at L k)
+  may-wait = rw own at (orderly-at h T (o .orderly) k (at L k) inside)
+
+  -- a grant of its level to it has passed 1 to 6
+  pub chosen-arguments : h ≤ 12 → length T ≡ 4096 → first (arguments h T (grant-level t (at L k .level) 7)) ≡ 0
+  chosen-arguments low long =
+      rw (
+        le-ltb 12 h low,
+        eq-eqb (length T) 4096 long,
+        le-ltb 4095 t (may-wait .tenant),
+        le-ltb h (at L k .level) (may-wait .level),
+      )
 
   in-line : waits t W ≡ true
   in-line = waits-by-place t W ∙ rw own-place (lt-ltb k (length W) inside)

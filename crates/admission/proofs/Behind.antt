@@ -18,17 +18,17 @@ use Rattle.calls.specs.Call.{Call as Direct, tenantOf}
 use Rattle.calls.specs.Step.{Outcome as TableOutcome, Check, check, first, validity, repeats, block-checks}
 use Rattle.calls.specs.Step.{grant-holdings as table-holdings, holdings}
 use Rattle.calls.specs.Step.{refused as table-refused, checks as table-checks, accepted as table-accepted, step as table-step}
-use Rattle.calls.specs.Changes.{Ready}
+use Rattle.calls.specs.Changes.{changeOn}
 use Rattle.calls.specs.Demand.{Asks, by-level, by-pages, releases, grows}
 use Rattle.calls.specs.Value.{callOf, numberOf, Gives as TableGives}
 use Rattle.calls.specs.declared.Call.{Call as Arguments}
 use Rattle.calls.specs.declared.Call.the-variants.{GrantLevel, GrantPages, Release, Grow}
 use Rattle.calls.specs.declared.Called.{Called}
 use Rattle.calls.proofs.Checks.{Numbered, validity-numbered, first-after-none, rest-zero, not-applied, valid-tenant, answer-is-first}
-use Rattle.calls.proofs.Calling.{arguments, arguments-numbered}
+use Rattle.calls.proofs.Calling.{arguments, arguments-numbered, changes}
 use Rattle.calls.proofs.Cases.{both-zero}
 use Rattle.calls.proofs.Answers.{asked-holdings}
-use Rattle.calls.proofs.Given.{value-of-step}
+use Rattle.calls.proofs.Given.{gives-same as table-same, value-of-step}
 use Rattle.calls.proofs.Repeats.{never-repeats}
 use Rattle.admission.specs.Call.{State, Call, direct}
 use Rattle.admission.specs.Step.{Outcome, reserve-checks, order-check, no-room, grant-holdings, checks}
@@ -62,6 +62,11 @@ pub refusal-given : (h : ℕ) (S : State) (c : Call) (k : ℕ) → k ≡ first (
     → {r : Called} → TableGives (table-refused k (S .table)) r (S .table) → Gives (step h S c) r (S .table) (S .line)
 refusal-given h S c k e found g = gives-same (gives-with-line (S .line) g) (step-refused h S c k e found)
 
+-- a call whose arguments have passed, settled on a table in order, does what the table's call does
+pub settled : (h : ℕ) (T : List ℕ) (c : Arguments) (m : ℕ) → first (arguments h T (callOf c m)) ≡ 0
+    → {r : Called} {T′ : List ℕ} → TableGives (changeOn h T (callOf c 0)) r T′ → TableGives (table-step h T (callOf c m)) r T′
+settled h T c m passed g = table-same g (changes h T c m 0 (sym passed) refl)
+
 -- a release and a growth leave the line alone
 module _ (h : ℕ) (T L : List ℕ) (c : Arguments) (m : ℕ) {r : Called} {T′ : List ℕ} (g : TableGives (table-step h T (callOf c m)) r T′) where
   pub release-given : (t : ℕ) → c ≡ Release t → Gives (step h (lent T L) (direct (callOf c m))) r T′ L
@@ -94,11 +99,9 @@ module _ (h : ℕ) (S : State) (c : Direct) (l : ℕ) (a : Asks h c l) where
   pub arguments-lengths : first asked ≡ 0 → Lengths h (length (S .table)) (length (S .line))
   arguments-lengths passed = lengths-passed h (length (S .table)) (length (S .line)) (validity h c) passed
 
-  pub arguments-ready : first asked ≡ 0 → Ready h (S .table) (tenantOf c)
-  arguments-ready passed =
-      let long = arguments-lengths passed in
-      let valid = both-zero (reserve-checks h S) (validity h c) (lent-numbered h (length (S .table)) (length (S .line))) passed .1 in
-      record { height = long .height; entries = long .entries; tenant = valid-tenant h c valid }
+  pub arguments-tenant : first asked ≡ 0 → tenantOf c < 4096
+  arguments-tenant passed =
+      valid-tenant h c (both-zero (reserve-checks h S) (validity h c) (lent-numbered h (length (S .table)) (length (S .line))) passed .1)
 
   asked-numbered : Numbered asked
   asked-numbered = (omega arith, (omega arith, (omega arith, validity-numbered h c)))
@@ -106,87 +109,62 @@ module _ (h : ℕ) (S : State) (c : Direct) (l : ℕ) (a : Asks h c l) where
   in-parts : first (asked ++ order-check h S ∷ grant-holdings h S (tenantOf c) l) ≡ first (checks h S (direct c))
   in-parts = ap first (sym (grant-asks h S c l a))
 
-  -- 1 to 6
-  pub first-of-arguments : (k : ℕ) → k ≡ first asked → ¬ (k ≡ 0) → k ≡ first (checks h S (direct c))
-  first-of-arguments k e found = found-first asked (order-check h S ∷ grant-holdings h S (tenantOf c) l) k e found ∙ in-parts
-
   module _ (passed : first asked ≡ 0) where
     -- 7
     pub first-of-disorder : ordered h S ≡ false → 7 ≡ first (checks h S (direct c))
     first-of-disorder e = disorder-decides h S asked (grant-holdings h S (tenantOf c) l) asked-numbered passed e ∙ in-parts
 
     module _ (line : line-in-order? h (S .table) (S .line) ≡ true) where
-      first-of-holdings : in-order? h (S .table) ≡ true → first (checks h S (direct c)) ≡ first (grant-holdings h S (tenantOf c) l)
-      first-of-holdings e =
-          sym in-parts ∙ rest-decides h S asked (grant-holdings h S (tenantOf c) l) asked-numbered passed (rw (e, line))
-
       pub form-of-line : InForm (S .line)
       form-of-line = in-form h (S .table) (S .line) (decides-line h (S .table) (S .line) (arguments-lengths passed .numbers) .0 line)
 
-      -- 18 or 10 where the line has it
-      pub first-of-line : (k : ℕ) → k ≡ line-number h S (tenantOf c) → ¬ (k ≡ 0) → k ≡ first (checks h S (direct c))
-      first-of-line k = go (in-order? h T) refl (eqb (nodeAt T t) 0) refl
-        where
-          T : List ℕ
-          T = S .table
+      module _ (table : in-order? h (S .table) ≡ true) where
+        pub first-of-holdings : first (checks h S (direct c)) ≡ first (grant-holdings h S (tenantOf c) l)
+        first-of-holdings = sym in-parts ∙ rest-decides h S asked (grant-holdings h S (tenantOf c) l) asked-numbered passed (rw (table, line))
 
-          t : ℕ
-          t = tenantOf c
-
-          go : (b : Bool) → in-order? h T ≡ b → (z : Bool) → eqb (nodeAt T t) 0 ≡ z
-              → k ≡ cond (b && z) (first (line-checks t (waitingIn (S .line)))) 0 → ¬ (k ≡ 0) → k ≡ first (checks h S (direct c))
-          go true p true q e found =
-              let nothing = eqb-true (nodeAt T t) 0 q in
-              let W = waitingIn (S .line) in
-              line-first (waits t W) (barred W) (no-room h T l) k e found
-              ∙ sym (first-of-holdings p ∙ rw (never-repeats h T t l nothing, nothing))
-          go true p false q e found = absurd (found e)
-          go false p z q e found = absurd (found e)
+        -- 18 or 10 where the line has it
+        pub first-of-line : (k : ℕ) → k ≡ line-number S (tenantOf c) → ¬ (k ≡ 0) → k ≡ first (checks h S (direct c))
+        first-of-line k = go (eqb (nodeAt (S .table) (tenantOf c)) 0) refl
+          where
+            go : (z : Bool) → eqb (nodeAt (S .table) (tenantOf c)) 0 ≡ z
+                → k ≡ cond z (first (line-checks (tenantOf c) (waitingIn (S .line)))) 0 → ¬ (k ≡ 0) → k ≡ first (checks h S (direct c))
+            go true q e found =
+                let nothing = eqb-true (nodeAt (S .table) (tenantOf c)) 0 q in
+                let W = waitingIn (S .line) in
+                line-first (waits (tenantOf c) W) (barred W) (no-room h (S .table) l) k e found
+                ∙ sym (first-of-holdings ∙ rw (never-repeats h (S .table) (tenantOf c) l nothing, nothing))
+            go false q e found = absurd (found e)
 
 -- ---- a grant that the line does not refuse
 
-module _ (h : ℕ) (S : State) (c : Direct) (l : ℕ) (a : Asks h c l) (u : Unopposed h S c) where
+module _ (h : ℕ) (S : State) (c : Direct) (l : ℕ) (a : Asks h c l) (table : in-order? h (S .table) ≡ true) (u : Unopposed h S c) where
   abbrev number : ℕ
   number = first (table-checks h (S .table) c)
 
-  arguments-pass : first (arguments h (S .table) c) ≡ 0
+  pub arguments-pass : first (arguments h (S .table) c) ≡ 0
   arguments-pass =
       let n = length (S .table) in
       let m = length (S .line) in
       lengths-tested-again h n m (validity h c) (both-zero (lent-checks h n m) (validity h c) (lent-numbered h n m) (u .arguments) .0)
       ∙ u .arguments
 
-  pub tenant-in-table : tenantOf c < length (S .table)
-  tenant-in-table = let r = arguments-ready h S c l a (u .arguments) in omega (arith, r .tenant, r .entries)
-
   -- past its arguments, the table decides
-  by-table : number ≡ first (check 7 (not (in-order? h (S .table))) ∷ table-holdings h (S .table) (tenantOf c) l)
+  by-table : number ≡ first (table-holdings h (S .table) (tenantOf c) l)
   by-table =
       let T = S .table in
       first-after-none (arguments h T c) (check 7 (not (in-order? h T)) ∷ holdings h T c) (arguments-numbered h T c) arguments-pass
       ∙ ap (λ (cs : List Check). first (check 7 (not (in-order? h T)) ∷ cs)) (asked-holdings h T c l a)
+      ∙ rw table
 
   same-number : first (checks h S (direct c)) ≡ number
-  same-number = go (in-order? h T) refl
-    where
-      T : List ℕ
-      T = S .table
-
-      t : ℕ
-      t = tenantOf c
-
-      W : List Waiting
-      W = waitingIn (S .line)
-
-      nothing-against : in-order? h T ≡ true → ltb 0 (nodeAt T t) ≡ false → first (line-checks t W) ≡ 0
-      nothing-against p q = rw (p, eq-eqb (nodeAt T t) 0 (omega (arith, ltb-false 0 (nodeAt T t) q))) at (u .clear)
-
-      go : (b : Bool) → in-order? h T ≡ b → first (checks h S (direct c)) ≡ number
-      go true p =
-          first-of-holdings h S c l a (u .arguments) (u .line) p
-          ∙ line-none (repeats h T t l) (ltb 0 (nodeAt T t)) (waits t W) (barred W) (no-room h T l) (nothing-against p)
-          ∙ sym (by-table ∙ rw p)
-      go false p = sym (first-of-disorder h S c l a (u .arguments) (rw p)) ∙ sym (by-table ∙ rw p)
+  same-number =
+      let T = S .table in
+      let t = tenantOf c in
+      let W = waitingIn (S .line) in
+      first-of-holdings h S c l a (u .arguments) (u .line) table
+      ∙ line-none (repeats h T t l) (ltb 0 (nodeAt T t)) (waits t W) (barred W) (no-room h T l)
+      (λ q. rw (eq-eqb (nodeAt T t) 0 (omega (arith, ltb-false 0 (nodeAt T t) q))) at (u .clear))
+      ∙ sym by-table
 
   -- so a grant does to the table what it does without a line, and the line is L′ afterwards if it is so where it is done and where it is refused
   beside : (L′ : List ℕ) → (number ≡ 0 → line-after h S c ≡ L′) → (¬ (number ≡ 0) → S .line ≡ L′)
@@ -202,16 +180,13 @@ module _ (h : ℕ) (S : State) (c : Direct) (l : ℕ) (a : Asks h c l) (u : Unop
 
   -- so does one to a holder, which is refused or a repeated one
   pub holder-beside : ¬ (nodeAt (S .table) (tenantOf c) ≡ 0) → step h S (direct c) ≡ with-line (table-step h (S .table) c) none (S .line)
-  holder-beside holds = beside (S .line) (λ z. grant-line h S c l a ∙ go (repeats h T t l) (holdings-pass z)) (λ _. refl)
+  holder-beside holds = beside (S .line) (λ z. grant-line h S c l a ∙ go (repeats h T t l) (sym by-table ∙ z)) (λ _. refl)
     where
       T : List ℕ
       T = S .table
 
       t : ℕ
       t = tenantOf c
-
-      holdings-pass : number ≡ 0 → first (table-holdings h T t l) ≡ 0
-      holdings-pass z = rest-zero 7 (not (in-order? h T)) (table-holdings h T t l) (omega arith) (sym by-table ∙ z)
 
       go : (b : Bool) → first (cond b [] (block-checks h T t l)) ≡ 0 → line-behind b (S .line) ≡ S .line
       go true z = refl

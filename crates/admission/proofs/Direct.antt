@@ -20,7 +20,8 @@ use Rattle.calls.specs.Demand.{Asks, by-level, by-pages, Releases, releases, Gr
 use Rattle.calls.proofs.Checks.{Sound, first-of-sound, Numbered, validity-numbered, first-after-none, first-stands}
 use Rattle.calls.proofs.Cases.{both-zero}
 use Rattle.admission.specs.Call.{State, Call, direct}
-use Rattle.admission.specs.Step.{Outcome, on-table, no-room, grant-holdings, grant-checks, checks, with-line, line-behind, line-after, accepted, unless, step}
+use Rattle.admission.specs.Step.{Outcome, on-table, no-room, grant-holdings, grant-checks, checks, with-line, line-behind, line-after}
+use Rattle.admission.specs.Step.{accepted, unless, step}
 
 pub unless-on-table : (n : ℕ) (S : State) (o : TableOutcome) (L : List ℕ) → on-table (unless n S (with-line o none L)) ≡ table-unless n (S .table) o
 unless-on-table zero S o L = refl
@@ -32,7 +33,8 @@ pub unless-with-line : (n : ℕ) (S : State) (o : TableOutcome) (done L : List �
 unless-with-line zero S o done L new same = ap (with-line o none) (new refl)
 unless-with-line (suc n) S o done L new same = ap (λ (M : List ℕ). with-line (table-unless (suc n) (S .table) o) none M) (same (λ z. omega arith))
 
-pub unless-line : (n : ℕ) (S : State) (o : TableOutcome) → unless n S (with-line o none (S .line)) ≡ with-line (table-unless n (S .table) o) none (S .line)
+pub unless-line : (n : ℕ) (S : State) (o : TableOutcome) → unless n S (with-line o none (S .line))
+    ≡ with-line (table-unless n (S .table) o) none (S .line)
 unless-line n S o = unless-with-line n S o (S .line) (S .line) (λ _. refl) (λ _. refl)
 
 -- ---- releases and growths
@@ -51,7 +53,8 @@ pub grant-asks : (h : ℕ) (S : State) (c : Direct) (l : ℕ) → Asks h c l →
 grant-asks h S c l (by-level {t = t} {l = k} {m = m}) = refl
 grant-asks h S c l (by-pages {t = t} {p = p} {m = m}) = refl
 
-pub grant-line : (h : ℕ) (S : State) (c : Direct) (l : ℕ) → Asks h c l → line-after h S c ≡ line-behind (repeats h (S .table) (tenantOf c) l) (S .line)
+pub grant-line : (h : ℕ) (S : State) (c : Direct) (l : ℕ) → Asks h c l → line-after h S c
+    ≡ line-behind (repeats h (S .table) (tenantOf c) l) (S .line)
 grant-line h S c l (by-level {t = t} {l = k} {m = m}) = refl
 grant-line h S c l (by-pages {t = t} {p = p} {m = m}) = refl
 

@@ -5,4 +5,4 @@ pub mod Joining
 pub mod Behind
 pub mod Admitting
 pub mod Handed
-pub mod Vacant
+pub mod Requests

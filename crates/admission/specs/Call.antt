@@ -8,8 +8,8 @@ pub record State : Type 0 where
   pub table : List ℕ
   pub line : List ℕ
 
--- A call that names its own tenant's block, as document 01 and L5 have them: a grant of either kind, a release or a growth; a join (tenant, level); an
--- admit, with the number of move entries lent; a withdrawal (tenant).
+-- A call that names its own tenant's block, as document 01 and L5 have them: a grant of either kind, a release or a growth; a join (tenant, level);
+-- an admit, with the number of move entries lent; a withdrawal (tenant).
 pub data Call : Type 0 where
   direct : Direct → Call
   join : ℕ → ℕ → Call

@@ -5,17 +5,30 @@ use mathlib.Core.Option.{Option, some, none}
 use Prim.Native.Nat.{ℕ}
 use Rattle.table.specs.Plan.{movesIn, planOf}
 use Rattle.line.specs.Line.{tenantIn}
-use Rattle.calls.specs.Value.{numberOf, nodeIn, answerOf}
+use Rattle.calls.specs.Call.{leastEntries as leastOf}
+use Rattle.calls.specs.Value.{callOf, numberOf, nodeIn, answerOf}
 use Rattle.calls.specs.declared.Called.{Called}
-use Rattle.admission.specs.Call.{State}
+use Rattle.admission.specs.Call.{State, Call, direct, admit}
 use Rattle.admission.specs.Step.{Outcome}
 use Rattle.admission.specs.declared.Admitted.{Admitted}
+use Rattle.admission.specs.declared.Request.{Request}
+use Rattle.admission.specs.declared.Request.the-variants.{Direct, Admit}
 use Rattle.line.specs.declared.Named.{Named}
 use Rattle.line.specs.declared.Named.the-variants.{Nobody, Tenant}
 
 -- a table and a line as they are lent
 abbrev pub lent : List ℕ → List ℕ → State
 lent T L = record { table = T; line = L }
+
+-- the call, given the number of entries lent
+abbrev pub requested : Request → ℕ → Call
+requested (Direct c) m = direct (callOf c m)
+requested Admit m = admit m
+
+-- the fewest entries that it takes
+abbrev pub leastEntries : Request → ℕ
+leastEntries (Direct c) = leastOf (callOf c 0)
+leastEntries Admit = 4
 
 -- the tenant that an admit names, or nobody
 abbrev pub namedOf : Option ℕ → Named

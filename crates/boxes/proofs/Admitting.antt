@@ -69,7 +69,8 @@ module _ (h : ℕ) (S : State) (B : Book) (K : Kept h S B) (m : ℕ) (enough : 4
 
     answered : table-step h (S .table) (grantTo (chosenIn h S) m) .answer ≡ 0
     answered =
-        ap (λ (o : TableOutcome). o .answer) (done-on-table h S (sound-state h S B K) (grantTo (chosenIn h S) m) (chosenIn h S .level) by-level valid room)
+        ap (λ (o : TableOutcome). o .answer)
+        (done-on-table h S (sound-state h S B K) (grantTo (chosenIn h S) m) (chosenIn h S .level) by-level valid room)
         ∙ accepted-answer h (S .table) (grantTo (chosenIn h S) m)
 
     asks-level : {k : ℕ} → Asks h (grantTo (chosenIn h S) m) k → k ≡ chosenIn h S .level
@@ -78,12 +79,14 @@ module _ (h : ℕ) (S : State) (B : Book) (K : Kept h S B) (m : ℕ) (enough : 4
     pub is-granted : Granted h (S .table) (grantTo (chosenIn h S) m) (chosenIn h S .level)
     is-granted = go (as-case h S (sound-state h S B K) (grantTo (chosenIn h S) m) (chosenIn h S .level) by-level answered)
       where
-        go : ((k : ℕ) × Granted h (S .table) (grantTo (chosenIn h S) m) k) ⊎ ((k : ℕ) × Repeated h (S .table) (grantTo (chosenIn h S) m) k) → Granted h (S .table) (grantTo (chosenIn h S) m) (chosenIn h S .level)
+        go : ((k : ℕ) × Granted h (S .table) (grantTo (chosenIn h S) m) k) ⊎ ((k : ℕ) × Repeated h (S .table) (grantTo (chosenIn h S) m) k)
+            → Granted h (S .table) (grantTo (chosenIn h S) m) (chosenIn h S .level)
         go (inl g) = subst (Granted h (S .table) (grantTo (chosenIn h S) m)) (asks-level (g .1 .asks)) (g .1)
         go (inr r) = absurd (omega (arith, r .1 .holds, may .holds-none))
 
     pub admits-somebody : step h S (admit m)
-        ≡ with-line (table-step h (S .table) (grantTo (chosenIn h S) m)) (some (chosenIn h S .tenant)) (lineOf (leave once-more (chosenIn h S .tenant) (waitingIn (S .line))))
+        ≡ with-line (table-step h (S .table) (grantTo (chosenIn h S) m)) (some (chosenIn h S .tenant))
+        (lineOf (leave once-more (chosenIn h S .tenant) (waitingIn (S .line))))
     admits-somebody =
         admit-done h S (sound-state h S B K) m enough
         ∙ ap (admission h S m) (chosen-is (fits h (S .table)) (waitingIn (S .line)) there _)
@@ -151,7 +154,8 @@ module _ (h : ℕ) (S : State) (B : Book) (K : Kept h S B) (m : ℕ) (enough : 4
       go (yes there) = admitted-kept there
       go (no out) = rw (admits-nobody out) K
 
-pub admit-kept : (h : ℕ) (S : State) (B : Book) → Kept h S B → (m : ℕ) → Kept h (step h S (admit m) .state) (enter h (admit m) (reply (step h S (admit m))) B)
+pub admit-kept : (h : ℕ) (S : State) (B : Book) → Kept h S B → (m : ℕ)
+    → Kept h (step h S (admit m) .state) (enter h (admit m) (reply (step h S (admit m))) B)
 admit-kept h S B K m = go (decLt m 4)
   where
     go : Dec (m < 4) → Kept h (step h S (admit m) .state) (enter h (admit m) (reply (step h S (admit m))) B)

@@ -151,7 +151,8 @@ module _ (h : ℕ) (S : State) (B : Book) (K : Kept h S B) where
           let on-its-own = of-table .other-asks c l a v e in
           ((λ ten. inr (on-its-own .0 .0 (sym same ∙ ten)), back same (on-its-own .0 .1)), either same (on-its-own .1))
         where
-          back : step h S (direct c) .answer ≡ table-step h (S .table) c .answer → (NoPlacement h (B .holdings) l → table-step h (S .table) c .answer ≡ 10)
+          back : step h S (direct c) .answer ≡ table-step h (S .table) c .answer
+              → (NoPlacement h (B .holdings) l → table-step h (S .table) c .answer ≡ 10)
               → SomebodyAtEight (lineBy B) ⊎ NoPlacement h (B .holdings) l → step h S (direct c) .answer ≡ 10
           back same on-its-own (inl at) =
               absurd (omega (arith, at .2, seldom-unless-barred (lineBy B) free (at .0) (record { tenant = 0; level = 0; passed = 0 }) (at .1)))
@@ -222,7 +223,8 @@ module _ (h : ℕ) (S : State) (B : Book) (K : Kept h S B) where
           let g = is-granted h S B K m enough there in
           let c = grantTo (chosenIn h S) m in
           let is : chosenIn h S .tenant ≡ t = omega (arith, ap name (sym (ap (λ (x : Outcome). x .named) o) ∙ named)) in
-          rw (o, ← is) (of-table .moves c, of-table .grant-moves c (chosenIn h S .level) (g .asks) (ap (λ (x : TableOutcome). x .answer) (g .outcome)))
+          rw (o, ← is)
+          (of-table .moves c, of-table .grant-moves c (chosenIn h S .level) (g .asks) (ap (λ (x : TableOutcome). x .answer) (g .outcome)))
       by-place enough (no out) = absurd (nobody-named _ (admits-nobody h S B K m enough out) refl)
 
       by-entries : Dec (m < 4)

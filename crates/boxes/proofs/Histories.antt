@@ -45,7 +45,8 @@ module _ (h : ℕ) (S : State) (B : Book) (K : Kept h S B) where
           let W = waitingIn (S .line) in
           let one : MayWait h (S .table) (record { tenant = t; level = l; passed = 0 }) =
           record { passed = zero-le; level = may .level; tenant = omega (arith, may .tenant); holds-none = may .holds-none } in
-          rw (q .1) (line-kept (joins t l) (joined t l W) (omega (arith, length-append W (record { tenant = t; level = l; passed = 0 } ∷ []), may .room))
+          rw (q .1)
+          (line-kept (joins t l) (joined t l W) (omega (arith, length-append W (record { tenant = t; level = l; passed = 0 } ∷ []), may .room))
           (orderly-joined h (S .table) t l W one (may .not-waiting) (K .line .orderly))
           (ap (joined t l) (K .says) ∙ sym (after-join t l (B .events))))
 

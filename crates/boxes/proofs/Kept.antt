@@ -94,7 +94,8 @@ module _ (h : ℕ) (S : State) (B : Book) (K : Kept h S B) (c : Direct) where
   line-stays S′ e H′ entered no-block out = rw (e, entered) (record {
     table = rw entered at table-kept;
     line = subst (LineInOrder h (table-step h (S .table) c .table)) (sym (K .line .numbers))
-        (line-kept h (S .table) (table-step h (S .table) c .table) H′ (waitingIn (S .line)) (rw entered at table-kept) (K .line .few) (K .line .orderly) out);
+        (line-kept h (S .table) (table-step h (S .table) c .table) H′ (waitingIn (S .line)) (rw entered at table-kept) (K .line .few)
+        (K .line .orderly) out);
     says = K .says ∙ sym (events-are false no-block);
   })
     where
@@ -157,10 +158,12 @@ module _ (h : ℕ) (S : State) (B : Book) (K : Kept h S B) (c : Direct) where
       still-none : (u : ℕ) → waits u (map once-more (waitingIn (S .line))) ≡ true → write (tenantOf c) (some l) (B .holdings) u ≡ none
       still-none u w =
           let in-line = sym (waits-passed u (waitingIn (S .line))) ∙ w in
-          beside (tenantOf c) u (some l) (B .holdings) (λ is. false≢true (sym not-waiting ∙ subst (λ (v : ℕ). waits v (waitingIn (S .line)) ≡ true) is in-line))
+          beside (tenantOf c) u (some l) (B .holdings)
+          (λ is. false≢true (sym not-waiting ∙ subst (λ (v : ℕ). waits v (waitingIn (S .line)) ≡ true) is in-line))
           (waiting-in-book h S B K u in-line)
 
-  refused-kept : (n : ℕ) → step h S (direct c) ≡ refused (suc n) S → Kept h (step h S (direct c) .state) (enter h (direct c) (reply (step h S (direct c))) B)
+  refused-kept : (n : ℕ) → step h S (direct c) ≡ refused (suc n) S
+      → Kept h (step h S (direct c) .state) (enter h (direct c) (reply (step h S (direct c))) B)
   refused-kept n e = rw (e, gave-none (B .holdings (tenantOf c))) K
 
   pub direct-kept : Kept h (step h S (direct c) .state) (enter h (direct c) (reply (step h S (direct c))) B)

@@ -133,8 +133,10 @@ module _ (h : ℕ) (S : State) (s : SoundState h S) where
   unfolding step
   join-way t l = go (first (checks h S (join t l))) refl
     where
-      go : (n : ℕ) → first (checks h S (join t l)) ≡ n → ((n : ℕ) × (unless (first (checks h S (join t l))) S (accepted h S (join t l)) ≡ refused (suc n) S))
-          ⊎ (MayJoin S h t l × (unless (first (checks h S (join t l))) S (accepted h S (join t l)) ≡ line-changed S (joined t l (waitingIn (S .line)))))
+      go : (n : ℕ) → first (checks h S (join t l)) ≡ n
+          → ((n : ℕ) × (unless (first (checks h S (join t l))) S (accepted h S (join t l)) ≡ refused (suc n) S))
+          ⊎ (MayJoin S h t l
+          × (unless (first (checks h S (join t l))) S (accepted h S (join t l)) ≡ line-changed S (joined t l (waitingIn (S .line)))))
       go zero e = inr (may-join t l (sym (join-first t l) ∙ e), ap (λ (n : ℕ). unless n S (accepted h S (join t l))) e)
       go (suc n) e = inl (n, ap (λ (n : ℕ). unless n S (accepted h S (join t l))) e)
 

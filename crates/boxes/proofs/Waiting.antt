@@ -142,7 +142,8 @@ module _ (h : ℕ) (S : State) (B : Book) (K : Kept h S B) where
   chosen-first : (k : ℕ) → MayEnter h B k → placeChosen (fits h (S .table)) (lineBy B) ≤ k
   chosen-first k e =
       let l = at-place (lineBy B) k .level in
-      chosen-by (fits h (S .table)) (lineBy B) k _ (e .in-line) (fits-by-book l ∙ le-leb (pagesHeld (B .holdings) + 2 ^ l) (2 ^ h) (e .fits)) (e .not-barred)
+      chosen-by (fits h (S .table)) (lineBy B) k _ (e .in-line) (fits-by-book l ∙ le-leb (pagesHeld (B .holdings) + 2 ^ l) (2 ^ h) (e .fits))
+      (e .not-barred)
 
   -- ---- admits
 
@@ -155,7 +156,8 @@ module _ (h : ℕ) (S : State) (B : Book) (K : Kept h S B) where
     admits-chosen k e p =
         let there : placeIn h S < length (waitingIn (S .line)) = in-table (rw e p) in
         let o = admits-somebody h S B K m enough there in
-        let w : chosenIn h S ≡ at-place (lineBy B) k = ap (λ (W : List Waiting). at-place W (placeChosen (fits h (S .table)) W)) (K .says) ∙ ap (at-place (lineBy B)) e in
+        let w : chosenIn h S ≡ at-place (lineBy B) k =
+        ap (λ (W : List Waiting). at-place W (placeChosen (fits h (S .table)) W)) (K .says) ∙ ap (at-place (lineBy B)) e in
         let g = is-granted h S B K m enough there in
         subst (λ (v : Waiting). Admits h S m v (step h S (admit m))) w (record {
           answer = ap (λ (x : Outcome). x .answer) o ∙ ap (λ (x : TableOutcome). x .answer) (g .outcome);
@@ -296,7 +298,8 @@ ends (suc N) h S B K m enough few =
   where
     go : Dec (placeChosen (fits h (S .table)) (lineBy B) < length (lineBy B))
         → (placeChosen (fits h (S .table)) (lineBy B) < length (lineBy B)
-        → (n : ℕ) × (n ≤ N) × Idle (stateFrom h (step h S (admit m) .state) (admits n m)) (step h (stateFrom h (step h S (admit m) .state) (admits n m)) (admit m)))
+        → (n : ℕ) × (n ≤ N) × Idle (stateFrom h (step h S (admit m) .state) (admits n m))
+        (step h (stateFrom h (step h S (admit m) .state) (admits n m)) (admit m)))
         → (n : ℕ) × (n ≤ suc N) × Idle (stateFrom h S (admits n m)) (step h (stateFrom h S (admits n m)) (admit m))
     go (yes p) rest = let r = rest p in (suc (r .0), omega (arith, r .1), r .2)
     go (no out) rest = (0, zero-le, idle h S B K m enough out)

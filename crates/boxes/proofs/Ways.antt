@@ -54,7 +54,8 @@ record Clear (holds waiting eight full : Bool) : Type 0 where
   nobody-at-eight : eight ≡ false
   room : full ≡ false
 
-clear : (holds waiting eight full : Bool) → first (check 8 holds ∷ check 18 waiting ∷ check 10 (eight || full) ∷ []) ≡ 0 → Clear holds waiting eight full
+clear : (holds waiting eight full : Bool) → first (check 8 holds ∷ check 18 waiting ∷ check 10 (eight || full) ∷ []) ≡ 0
+    → Clear holds waiting eight full
 clear true w d n e = absurd (omega arith)
 clear false true d n e = absurd (omega arith)
 clear false false true n e = absurd (omega arith)
@@ -127,7 +128,8 @@ module _ (h : ℕ) (S : State) (s : SoundState h S) (c : Direct) (l : ℕ) (a : 
       go zero e =
           let z = both-zero (validity h c) (grant-holdings h S (tenantOf c) l) (validity-numbered h c) (sym (first-of-grant h S s c l a) ∙ e) in
           grant-done (z .0) (z .1)
-          (ap (λ (n : ℕ). unless n S (accepted h S (direct c))) e ∙ ap (λ (L : List ℕ). with-line (table-accepted h (S .table) c) none L) (grant-line h S c l a))
+          (ap (λ (n : ℕ). unless n S (accepted h S (direct c))) e
+          ∙ ap (λ (L : List ℕ). with-line (table-accepted h (S .table) c) none L) (grant-line h S c l a))
       go (suc n) e = turned-down n (ap (λ (n : ℕ). unless n S (accepted h S (direct c))) e)
 
 module _ (h : ℕ) (S : State) (s : SoundState h S) where

@@ -1,5 +1,5 @@
 -- From a call's arguments to what its table decides.
-use mathlib.Core.Path.{_≡_, refl, sym, ap, _∙_}
+use mathlib.Core.Path.{_≡_, refl, sym, ap, subst, _∙_}
 use mathlib.Core.Bool.{not}
 use mathlib.Core.List.{List, _∷_, _++_}
 use Prim.Native.Nat.{ℕ, _≤_}
@@ -57,14 +57,15 @@ module _ (h : ℕ) (T : List ℕ) (c : Call) (k : ℕ) (asked : k ≡ first (arg
       tenant = valid-tenant h c valid;
     }
 
-    pub sized : first (size-checks h c) ≡ 0
+    sized : first (size-checks h c) ≡ 0
     sized = valid-size h c valid
 
-    pub call-changes : changeOn h T c ≡ step h T c
+    call-changes : changeOn h T c ≡ step h T c
     unfolding changeOn by-table
     call-changes = decided
 
--- the entries lent do not matter for what the table decides
+-- ---- the entries lent do not matter for what the table decides
+
 module _ (h : ℕ) (T : List ℕ) (m : ℕ) where
   pub same-tenant : (c : Arguments) → tenantOf (callOf c m) ≡ tenantOf (callOf c 0)
   same-tenant (GrantLevel t l) = refl
@@ -72,15 +73,26 @@ module _ (h : ℕ) (T : List ℕ) (m : ℕ) where
   same-tenant (Release t) = refl
   same-tenant (Grow t l) = refl
 
-  pub same-size : (c : Arguments) → first (size-checks h (callOf c m)) ≡ first (size-checks h (callOf c 0))
+  same-size : (c : Arguments) → first (size-checks h (callOf c m)) ≡ first (size-checks h (callOf c 0))
   same-size (GrantLevel t l) = refl
   same-size (GrantPages t p) = refl
   same-size (Release t) = refl
   same-size (Grow t l) = refl
 
-  pub same-change : (c : Arguments) → changeOn h T (callOf c 0) ≡ changeOn h T (callOf c m)
+  same-change : (c : Arguments) → changeOn h T (callOf c 0) ≡ changeOn h T (callOf c m)
   unfolding changeOn
   same-change (GrantLevel t l) = refl
   same-change (GrantPages t p) = refl
   same-change (Release t) = refl
   same-change (Grow t l) = refl
+
+-- a call whose arguments have passed, with any number of entries that they take
+module _ (h : ℕ) (T : List ℕ) (c : Arguments) (m k : ℕ) (asked : k ≡ first (arguments h T (callOf c m))) (none : k ≡ 0) where
+  pub ready-to-change : Ready h T (tenantOf (callOf c 0))
+  ready-to-change = subst (Ready h T) (same-tenant h T m c) (ready h T (callOf c m) k asked none)
+
+  pub sized-to-change : first (size-checks h (callOf c 0)) ≡ 0
+  sized-to-change = sym (same-size h T m c) ∙ sized h T (callOf c m) k asked none
+
+  pub changes : changeOn h T (callOf c 0) ≡ step h T (callOf c m)
+  changes = same-change h T m c ∙ call-changes h T (callOf c m) k asked none

@@ -14,6 +14,8 @@ use Rattle.layout.specs.Change.{oneMore}
 use Rattle.table.specs.Table.{nodeAt, countsOf, in-order?}
 use Rattle.table.specs.Owners.{ownersOf}
 use Rattle.sizes.specs.Level.{levelFor}
+use Rattle.survey.specs.declared.Finding.{Finding}
+use Rattle.survey.proofs.Surveyed.{Surveyed}
 use Rattle.calls.specs.Call.{Call, grant-level, grant-pages, release, grow}
 use Rattle.calls.specs.Step.{check, first, countsBut, refused, granted, repeated, released, unless}
 use Rattle.calls.specs.Changes.{Looked, without, others, placeOn, toHolder, grantOn, releaseOn, growOn, changeOn}
@@ -112,6 +114,10 @@ module _ (h : ℕ) (T : List ℕ) where
     pub change-grows : (l : ℕ) → growOn h T t l ≡ changeOn h T (grow t l 0)
     unfolding changeOn growOn
     change-grows l = rw e
+
+-- what a survey shows of a table in order
+pub looked : {h : ℕ} {T o : List ℕ} {r : Finding} → Surveyed h T o r → r .«in_order» ≡ true → Looked h T (r .counts .at) o
+looked found seen = record { in-order = sym (found .in-order) ∙ seen; counts = found .counts seen; owners = found .owners seen }
 
 -- what holds of the table's own counts and owners holds of those that were looked up, and the other way round
 module _ {h : ℕ} {T cs o : List ℕ} (P : List ℕ → List ℕ → Type 0) (l : Looked h T cs o) where

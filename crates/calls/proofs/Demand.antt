@@ -107,7 +107,8 @@ module _ (h : ℕ) (T₁ T₂ : List ℕ) (B₁ B₂ : Book) (b₁ : Box h T₁ 
         e m,
       )
 
-  pub same-growth : (c₁ c₂ : Call) (l k : ℕ) → Grows c₁ l → Grows c₂ l → Valid h c₁ → Valid h c₂ → B₁ (tenantOf c₁) ≡ some k → B₂ (tenantOf c₂) ≡ some k
+  pub same-growth : (c₁ c₂ : Call) (l k : ℕ) → Grows c₁ l → Grows c₂ l → Valid h c₁ → Valid h c₂
+      → B₁ (tenantOf c₁) ≡ some k → B₂ (tenantOf c₂) ≡ some k
       → SameFate (NoExchange h B₁ (tenantOf c₁) l) 7 (step h T₁ c₁) (step h T₂ c₂)
   same-growth c₁ c₂ l k g₁ g₂ v₁ v₂ k₁ k₂ =
       same-fate h (held (write (tenantOf c₁) (some l) B₁)) (held (write (tenantOf c₂) (some l) B₂)) (step h T₁ c₁) (step h T₂ c₂) 7

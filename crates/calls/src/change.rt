@@ -38,11 +38,24 @@ pub fn change(height: u16, table: &mut [u16], call: Call) -> Called
     if !found.in_order {
         return refused(NOT_IN_ORDER);
     }
-    let counts = found.counts;
+    settle(height, table, call, found.counts, &owners)
+}
+
+// Runs the call on a table in order, whose counts and owners are known, unless what is held refuses it.
+pub fn settle(
+    height: u16,
+    table: &mut [u16],
+    call: Call,
+    counts: Counts,
+    owners: &[u16; NODES],
+) -> Called
+    requires ready { ⌜ Ready height (now table) (tenantOf (callOf call 0)) ⌝ }
+    requires size { ⌜ first (size-checks height (callOf call 0)) ≡ 0 ⌝ }
+    requires looked { ⌜ Looked height (now table) (counts .at) (now owners) ⌝ }
+    ensures { λ r. ⌜ Gives (changeOn height (now (table .entry)) (callOf call 0)) r (now (table .exit)) ⌝ }
+{
     match call {
-        Call::GrantLevel { tenant, level } => {
-            grant(height, table, tenant, level, counts, &owners)
-        }
+        Call::GrantLevel { tenant, level } => grant(height, table, tenant, level, counts, owners),
         Call::GrantPages { tenant, pages } => {
             grant(
                 height,
@@ -50,15 +63,15 @@ pub fn change(height: u16, table: &mut [u16], call: Call) -> Called
                 tenant,
                 level_for(height, pages),
                 counts,
-                &owners,
+                owners,
             )
         }
-        Call::Release { tenant } => give_up(height, table, tenant, counts, &owners),
+        Call::Release { tenant } => give_up(height, table, tenant, counts, owners),
         Call::Grow { tenant, level } => {
             if table[tenant as usize] == 0 {
                 return refused(HOLDS_NONE);
             }
-            place(height, table, tenant, level, counts, &owners)
+            place(height, table, tenant, level, counts, owners)
         }
     }
 }
@@ -125,7 +138,7 @@ fn give_up(
 }
 
 // Gives the tenant a block of the level in the place of the one that it has, if it has one, unless there is no room.
-pub fn place(
+fn place(
     height: u16,
     table: &mut [u16],
     tenant: u16,

@@ -122,7 +122,8 @@ record Next (h : ℕ) (S : State) (c : Call) (r : Reply) (image′ line′ : Lis
   images : Images image′ line′ (step h S c .state)
   replied : r ≡ reply (step h S c)
 
-module _ (h : ℕ) (S : State) (B : Book) (b : Box h S B) (long : (c : Call) → Long (step h S c .state)) (image line : List ℕ) (p : Images image line S) where
+module _ (h : ℕ) (S : State) (B : Book) (b : Box h S B) (long : (c : Call) → Long (step h S c .state)) (image line : List ℕ)
+    (p : Images image line S) where
   on-state : (c : Call) → step h (stateIn image line) c ≡ step h S c
   on-state c = ap (λ (R : State). step h R c) (state-in p)
 
@@ -160,7 +161,8 @@ module _ (h : ℕ) (S : State) (B : Book) (b : Box h S B) (long : (c : Call) →
       }
 
   -- a join or a withdrawal, which leaves the table
-  line-next : (c : Call) (line′ : List ℕ) (r : ℕ) → Quiet S (step h S c) → LineCalled (step h (stateIn image line) c) line r line′ → Next h S c (unnamed r) image line′
+  line-next : (c : Call) (line′ : List ℕ) (r : ℕ) → Quiet S (step h S c) → LineCalled (step h (stateIn image line) c) line r line′
+      → Next h S c (unnamed r) image line′
   line-next c line′ r quiet on =
       let q = subst (λ (o : Done). LineCalled o line r line′) (on-state c) on in
       record {
@@ -183,13 +185,16 @@ module _ (h : ℕ) (S : State) (B : Book) (b : Box h S B) (long : (c : Call) →
       ap (λ (n : ℕ). cond (eqb n 65535) none (some n)) (q .tenant) ∙ named-again (step h S c .named) below in
       record {
         images =
-            images-after (step h S c) image line image′ line′ S p (long c) (b .line .refused-keeps c) (q .behind .of-table .table) (q .behind .line-bytes);
+            images-after (step h S c) image line image′ line′ S p (long c) (b .line .refused-keeps c) (q .behind .of-table .table)
+            (q .behind .line-bytes);
         replied = λ i. record { answer = q .behind .of-table .answer i; named = named i };
       }
 
   next : (c : Call) (r : Reply) (image′ line′ : List ℕ) → Exported h image line c r image′ line′ → Next h S c r image′ line′
-  next c r image′ line′ (reserve-grant-level {list = list} {list′ = list′} {r = o} t l on) = behind-next (grant-level t l) list image′ line′ list′ o on
-  next c r image′ line′ (reserve-grant-pages {list = list} {list′ = list′} {r = o} t g on) = behind-next (grant-pages t g) list image′ line′ list′ o on
+  next c r image′ line′ (reserve-grant-level {list = list} {list′ = list′} {r = o} t l on) =
+      behind-next (grant-level t l) list image′ line′ list′ o on
+  next c r image′ line′ (reserve-grant-pages {list = list} {list′ = list′} {r = o} t g on) =
+      behind-next (grant-pages t g) list image′ line′ list′ o on
   next c r image′ line′ (reserve-release {list = list} {list′ = list′} {r = o} t on) =
       alone-next (release t) list image′ list′ o (release-alone h S (release t (entriesIn list)) releases) on
   next c r image′ line′ (reserve-grow {list = list} {list′ = list′} {r = o} t l on) =
@@ -254,7 +259,8 @@ module _ (h : ℕ) (image line : List ℕ) (calls : List Call) (replies : List R
         replied = ap₂ (λ (rs : List Reply) (q : Reply). rs ++ q ∷ []) (F .replied) (n .replied) ∙ sym (replies-of-one-more h S₁ calls c);
       }
 
-follows : {h : ℕ} {image line : List ℕ} {calls : List Call} {replies : List Reply} → Led h image line calls replies → Follows h image line calls replies
+follows : {h : ℕ} {image line : List ℕ} {calls : List Call} {replies : List Reply} → Led h image line calls replies
+    → Follows h image line calls replies
 follows (opened image line {r = r} on z) = follows-opening _ image line _ _ r on z
 follows (called {image = image} {line = line} {calls = calls} {replies = replies} {c = c} {r = r} led x) =
     follows-call _ image line calls replies (follows led) c r _ _ x
@@ -262,7 +268,8 @@ follows (called {image = image} {line = line} {calls = calls} {replies = replies
 -- ---- the bytes of one box
 
 -- an outcome that changes nothing leaves the images of its table and its line and any list
-untouched : (t : ℕ) (o : Done) (image line list image′ line′ list′ : List ℕ) (r : Outcome) → image ≡ imageOf (tableOf image) → line ≡ imageOf (lineIn line)
+untouched : (t : ℕ) (o : Done) (image line list image′ line′ list′ : List ℕ) (r : Outcome) → image ≡ imageOf (tableOf image)
+    → line ≡ imageOf (lineIn line)
     → Unchanged t (tableOf image) (on-table o) → o .state .line ≡ lineIn line → ReportedBehind o image line list r image′ line′ list′
     → Untouched (nodeAt (tableOf image) t) image line list r image′ line′ list′
 unfolding imageOf numbersOf

@@ -79,7 +79,8 @@ pub record BytesOfBox (h : ℕ) (image line : List ℕ) (B : Book) : Type 0 wher
       → stateIn image′ line′ ≡ step h (stateIn image line) c .state
   pub next-reply : (c : Call) (r : Reply) (image′ line′ : List ℕ) → Exported h image line c r image′ line′ → r ≡ reply (step h (stateIn image line) c)
   -- a grant of the level that the book has for its tenant, which is a repeated one, names the tenant's node and leaves every byte
-  pub repeated-grants : (call : ℕ → Direct) (list image′ line′ list′ : List ℕ) (r : Outcome) → CalledBehind h call image line list r image′ line′ list′
+  pub repeated-grants : (call : ℕ → Direct) (list image′ line′ list′ : List ℕ) (r : Outcome)
+      → CalledBehind h call image line list r image′ line′ list′
       → (l : ℕ) → Asks h (call (entriesIn list)) l → Valid h (call (entriesIn list)) → B .holdings (tenantOf (call (entriesIn list))) ≡ some l
       → Untouched (nodeAt (tableOf image) (tenantOf (call (entriesIn list)))) image line list r image′ line′ list′
 

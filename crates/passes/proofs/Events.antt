@@ -220,7 +220,8 @@ after-leaving h T t e leaves (joins u k ∷ es) orderly in-line =
 
     go : (gone : Bool) → left u es ≡ gone → Orderly h T (entry gone (since u k es) (waitingAfter es))
         → waits t (entry gone (since u k es) (waitingAfter es)) ≡ true
-        → (Orderly h T (waitingAfter es) → waits t (waitingAfter es) ≡ true → waitingAfter (es ++ e ∷ []) ≡ leave (changing leaves) t (waitingAfter es))
+        → (Orderly h T (waitingAfter es) → waits t (waitingAfter es) ≡ true
+        → waitingAfter (es ++ e ∷ []) ≡ leave (changing leaves) t (waitingAfter es))
         → entry (gone || eqb t u) (passed-by e (since u k es) es) (waitingAfter (es ++ e ∷ []))
         ≡ leave (changing leaves) t (entry gone (since u k es) (waitingAfter es))
     go true stayed orderly in-line rest = rest orderly in-line
@@ -232,7 +233,8 @@ after-leaving h T t e leaves (joins u k ∷ es) orderly in-line =
             rw (eq-eqb t u (sym is), eq-eqb u t is) (not-in-line t e leaves es (joined-waits t es (rw is at stayed) (rw is at alone)))
         by-tenant (no is-not) =
             let behind = rw (ne-eqb u t is-not) at in-line in
-            rw (ne-eqb t u (λ is. absurd (is-not (sym is))), ne-eqb u t is-not, passed-if-younger leaves (waits-joined t es behind), rest orderly behind)
+            let younger = passed-if-younger leaves (waits-joined t es behind) in
+            rw (ne-eqb t u (λ is. absurd (is-not (sym is))), ne-eqb u t is-not, younger, rest orderly behind)
 after-leaving h T t e leaves (withdraws u ∷ es) orderly in-line = after-leaving h T t e leaves es orderly in-line
 after-leaving h T t e leaves (admitted u ∷ es) orderly in-line = after-leaving h T t e leaves es orderly in-line
 after-leaving h T t e leaves (granted ∷ es) orderly in-line = after-leaving h T t e leaves es orderly in-line

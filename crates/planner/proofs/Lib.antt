@@ -3,5 +3,4 @@ pub mod Front
 pub mod Moves
 pub mod OwnList
 pub mod Performing
-pub mod Requests
 pub mod Walk

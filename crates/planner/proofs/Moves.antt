@@ -25,9 +25,9 @@ use Rattle.calls.proofs.Few as Few
 use Rattle.calls.proofs.OneKind.{at-most-7}
 use Rattle.admission.specs.Call.{State, direct, admit}
 use Rattle.admission.specs.Step.{order-check, no-room, grant-holdings, grant-checks, checks, fits, with-line, line-after, admission, unless, step}
-use Rattle.planner.specs.declared.Request.{Request}
-use Rattle.planner.specs.declared.Request.the-variants.{Direct, Admit}
-use Rattle.planner.specs.Performed.{requested}
+use Rattle.admission.specs.Value.{requested}
+use Rattle.admission.specs.declared.Request.{Request}
+use Rattle.admission.specs.declared.Request.the-variants.{Direct, Admit}
 
 -- ---- a grant that passes with a line passes without one
 

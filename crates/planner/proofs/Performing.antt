@@ -8,10 +8,10 @@ use Rattle.table.specs.declared.Move.{Move}
 use Rattle.table.specs.Plan.{movesIn}
 use Rattle.table.proofs.PlanOf.{moves-in-plan-of, count-in-plan-of}
 use Rattle.admission.specs.Step.{step}
-use Rattle.admission.specs.Value.{lent, GivesAdmitted}
+use Rattle.admission.specs.Value.{requested, lent, GivesAdmitted}
 use Rattle.admission.specs.declared.Admitted.{Admitted}
-use Rattle.planner.specs.declared.Request.{Request}
-use Rattle.planner.specs.Performed.{requested, Performed}
+use Rattle.admission.specs.declared.Request.{Request}
+use Rattle.planner.specs.Performed.{Performed}
 use Rattle.planner.proofs.Moves as Moves
 
 module _ (h : ℕ) (c : Request) (T L : List ℕ) (m : ℕ) (r : Admitted) (T′ L′ : List ℕ)

@@ -4,24 +4,11 @@ use mathlib.Core.List.{List, _++_}
 use Prim.Native.Nat.{ℕ}
 use lib.ListN.{length, drop}
 use Rattle.table.specs.declared.Move.{Move}
-use Rattle.calls.specs.Call.{leastEntries as leastOf}
-use Rattle.calls.specs.Value.{callOf, answerOf}
-use Rattle.admission.specs.Call.{Call, direct, admit}
+use Rattle.calls.specs.Value.{answerOf}
 use Rattle.admission.specs.Step.{Outcome, step}
-use Rattle.admission.specs.Value.{lent, namedOf}
-use Rattle.planner.specs.declared.Request.{Request}
-use Rattle.planner.specs.declared.Request.the-variants.{Direct, Admit}
+use Rattle.admission.specs.Value.{requested, lent, namedOf}
+use Rattle.admission.specs.declared.Request.{Request}
 use Rattle.planner.specs.declared.Report.{Report}
-
--- the call, given the number of entries lent
-abbrev pub requested : Request → ℕ → Call
-requested (Direct c) m = direct (callOf c m)
-requested Admit m = admit m
-
--- the fewest entries that it takes
-abbrev pub leastEntries : Request → ℕ
-leastEntries (Direct c) = leastOf (callOf c 0)
-leastEntries Admit = 4
 
 -- r is the report of o, T′ the table and L′ the line afterwards, and M′ the list: the moves from the top, and the entries after them as they were
 -- in M. A refusal has no moves, so it leaves every entry.

@@ -5,32 +5,15 @@ ghost use Prim.Native.Nat.{_≤_, _<_};
 ghost use lib.ListN.{length, getD, drop};
 ghost use Rattle.table.specs.Plan.{movesIn, no-move};
 ghost use Rattle.admission.specs.Step.{step};
-ghost use Rattle.admission.specs.Value.{lent, GivesAdmitted};
-ghost use Rattle.planner.specs.Performed.{requested, leastEntries, Performed};
+ghost use Rattle.admission.specs.Value.{requested, lent, GivesAdmitted};
+ghost use Rattle.planner.specs.Performed.{Performed};
 use admission::Admitted;
+use admission::Request;
+use admission::run;
 use calls::Answer;
-use calls::Call;
 use line::Named;
 use table::Move;
 use table::plan::Plan;
-
-// A call that may move tenants: one that names its own tenant's block, or an admit.
-pub enum Request {
-    Direct { call: Call },
-    Admit,
-}
-
-impl Request {
-    // The fewest move entries that it takes.
-    fn least_entries(self) -> usize
-        ensures { λ r. ⌜ r ≡ leastEntries self ⌝ }
-    {
-        match self {
-            Request::Direct { call } => call.least_entries(),
-            Request::Admit => 4,
-        }
-    }
-}
 
 // What a call reports: its answer, whom an admit granted, and how many moves stand in the list.
 pub struct Report {
@@ -97,32 +80,6 @@ fn perform_on_seven(height: u16, table: &mut [u16], line: &mut [u16], request: R
             n: report.moves,
             moves: list,
         },
-    }
-}
-
-// Runs a call of either kind; one that names its own tenant's block names nobody.
-fn run(
-    height: u16,
-    table: &mut [u16],
-    line: &mut [u16],
-    entries: usize,
-    request: Request,
-) -> Admitted
-    ensures { λ r. ⌜ GivesAdmitted (step height (lent (now (table .entry)) (now (line .entry))) (requested request entries))
-        r (now (table .exit)) (now (line .exit)) ⌝ }
-{
-    match request {
-        Request::Direct { call } => {
-            let called = admission::run(height, table, line, entries, call);
-            let answer = called.answer;
-            let plan = called.plan;
-            Admitted {
-                answer,
-                named: Named::Nobody,
-                plan,
-            }
-        }
-        Request::Admit => admission::admit(height, table, line, entries),
     }
 }
 

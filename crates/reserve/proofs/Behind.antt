@@ -17,18 +17,18 @@ use Rattle.calls.specs.declared.Answer.{Answer}
 use Rattle.calls.proofs.Given.{number-of-answer}
 use Rattle.admission.specs.Call.{State, Call, direct, join, admit, withdraw}
 use Rattle.admission.specs.Step.{Outcome as Done, on-table, checks, accepted, unless, step, reserve-checks, open-reserve}
-use Rattle.admission.specs.Value.{lent, admittedOf, GivesAdmitted}
+use Rattle.admission.specs.Value.{requested, lent, admittedOf, GivesAdmitted}
 use Rattle.admission.proofs.Handed.{step-no-node, handed-back}
 use Rattle.admission.specs.declared.Admitted.{Admitted}
 use Rattle.admission.proofs.Arguments.{Lengths, lengths-passed}
 use Rattle.table.proofs.PlanOf.{count-in-plan-of}
-use Rattle.planner.specs.Performed.{requested}
 use Rattle.planner.proofs.Moves.{moves-few, moves-fit}
-use Rattle.planner.specs.declared.Request.{Request}
+use Rattle.admission.specs.declared.Request.{Request}
 use Rattle.admission.specs.Inner.{lent-checks}
 use Rattle.image.proofs.Images.{lent-as-none, lent-as-all, numbers-length, image-of-zeros}
 use Rattle.image.specs.Image.{imageOf, lentAs, tableOf, lineIn, Decoded}
-use Rattle.reserve.specs.Door.{bytesAfter, stateIn, tenantNumber, ReportedAdmission, LineCalled, OpenedOn, TakesLine, by-level, by-pages, an-admit}
+use Rattle.reserve.specs.Door.{bytesAfter, stateIn, tenantNumber, ReportedAdmission, LineCalled, OpenedOn, TakesLine, by-level, by-pages}
+use Rattle.reserve.specs.Door.{an-admit}
 use Rattle.reserve.specs.Values.{changing}
 use Rattle.reserve.specs.declared.Admission.{Admission}
 use Rattle.reserve.specs.declared.Change.{Change}
@@ -65,12 +65,18 @@ pub data Lined : Call → Type 0 where
   a-withdrawal : {t : ℕ} → Lined (withdraw t)
   a-request : (r : Request) (m : ℕ) → TakesLine r → Lined (requested r m)
 
+-- what follows the checks of the lengths has passed too
+rest-lengths : (h : ℕ) (S : State) (c : Call) → lent-checks h (length (S .table)) (length (S .line)) ++ drop 3 (checks h S c) ≡ checks h S c
+    → step h S c .answer ≡ 0 → Lengths h (length (S .table)) (length (S .line))
+rest-lengths h S c whole e =
+    lengths-passed h (length (S .table)) (length (S .line)) (drop 3 (checks h S c)) (ap first whole ∙ done-first h S c e)
+
 pub done-lengths : (h : ℕ) (S : State) (c : Call) → Lined c → step h S c .answer ≡ 0 → Lengths h (length (S .table)) (length (S .line))
-done-lengths h S c (a-join {t = t} {l = l}) e = lengths-passed h (length (S .table)) (length (S .line)) (drop 3 (checks h S (join t l))) (done-first h S (join t l) e)
-done-lengths h S c (a-withdrawal {t = t}) e = lengths-passed h (length (S .table)) (length (S .line)) (drop 3 (checks h S (withdraw t))) (done-first h S (withdraw t) e)
-done-lengths h S c (a-request r m (by-level {t = t} {l = l})) e = lengths-passed h (length (S .table)) (length (S .line)) (drop 3 (checks h S (direct (grant-level t l m)))) (done-first h S (direct (grant-level t l m)) e)
-done-lengths h S c (a-request r m (by-pages {t = t} {p = p})) e = lengths-passed h (length (S .table)) (length (S .line)) (drop 3 (checks h S (direct (grant-pages t p m)))) (done-first h S (direct (grant-pages t p m)) e)
-done-lengths h S c (a-request r m an-admit) e = lengths-passed h (length (S .table)) (length (S .line)) (drop 3 (checks h S (admit m))) (done-first h S (admit m) e)
+done-lengths h S c (a-join {t = t} {l = l}) e = rest-lengths h S (join t l) refl e
+done-lengths h S c (a-withdrawal {t = t}) e = rest-lengths h S (withdraw t) refl e
+done-lengths h S c (a-request r m (by-level {t = t} {l = l})) e = rest-lengths h S (direct (grant-level t l m)) refl e
+done-lengths h S c (a-request r m (by-pages {t = t} {p = p})) e = rest-lengths h S (direct (grant-pages t p m)) refl e
+done-lengths h S c (a-request r m an-admit) e = rest-lengths h S (admit m) refl e
 
 -- ---- numbers that were read into an array, changed, and written back
 
@@ -265,6 +271,7 @@ module _ (h : ℕ) (q : Request) (takes : TakesLine q) (m : ℕ) (done : Admitte
   request-reported p =
       same-admission (admittedOf done (T ++ drop n nodes) (L ++ drop k numbers)) o request-answer (ap (λ (x : Done). x .node) met)
       (ap (λ (x : Done). x .named) met) (ap (λ (x : Done). x .moves) met)
-      (λ z. ap₂ lent (numbers-done 4096 (o .answer) T image nodes T n (omega arith) long d kept (λ w. lengths w .entries) refl (sym request-answer ∙ z))
+      (λ z. ap₂ lent (numbers-done 4096 (o .answer) T image nodes T n (omega arith) long d kept (λ w. lengths w .entries) refl
+      (sym request-answer ∙ z))
       (numbers-done 193 (o .answer) L line numbers L k (omega arith) long′ d′ kept′ (λ w. lengths w .numbers) refl (sym request-answer ∙ z))
       ∙ ap (λ (x : Done). x .state) met) p

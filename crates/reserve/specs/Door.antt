@@ -12,7 +12,7 @@ use Rattle.calls.specs.declared.Call.{Call as Arguments}
 use Rattle.admission.specs.Call.{State, direct, admit}
 use Rattle.admission.specs.Step.{Outcome as Done, on-table, step, open-reserve}
 use Rattle.admission.specs.Value.{lent}
-use Rattle.planner.specs.declared.Request.{Request}
+use Rattle.admission.specs.declared.Request.{Request}
 use Rattle.image.specs.Image.{imageOf, tableOf, lineIn, moveBytes}
 use Rattle.pagemap.specs.declared.Counted.{Counted as Bits}
 use Rattle.reserve.specs.declared.Admission.{Admission}

@@ -2,11 +2,9 @@
 use borrow.Author.Needs.{needs}
 use Rattle.calls.proofs.run.Statement.{statement}
 use Rattle.calls.proofs.run.Tie as tie
-use mathlib.Core.Path.{sym, subst, _∙_}
 use Rattle.calls.specs.Value.{callOf}
-use Rattle.calls.specs.Changes.{Ready}
 use Rattle.calls.proofs.Given.{gives-same}
-use Rattle.calls.proofs.Calling.{call-refused, ready, sized, call-changes, same-tenant, same-size, same-change}
+use Rattle.calls.proofs.Calling.{call-refused, ready-to-change, sized-to-change, changes}
 
 call-refusal-requires : tie.Need-call-refusal-requires
 call-refusal-requires c κs = search needs
@@ -27,13 +25,9 @@ change-requires c κs =
     let x = c .before .before in
     let a = x .before .before .args in
     let T = a .table .now in
-    let call = callOf (a .call) (a .entries) in
-    let k = x .call-refusal .result in
     let asked = x .call-refusal .ensures in
-    let none = c .before .if1 .left in (
-      subst (Ready (a .height) T) (same-tenant (a .height) T (a .entries) (a .call)) (ready (a .height) T call k asked none),
-      sym (same-size (a .height) T (a .entries) (a .call)) ∙ sized (a .height) T call k asked none,
-    )
+    let none = c .before .if1 .left in
+    (ready-to-change (a .height) T (a .call) (a .entries) _ asked none, sized-to-change (a .height) T (a .call) (a .entries) _ asked none)
 
 same-length : tie.Need-same-length
 same-length c = search needs
@@ -42,11 +36,8 @@ returns-2 : tie.Need-returns-2
 returns-2 c =
     let x = c .before .before .before .before .before in
     let a = x .before .before .args in
-    let T = a .table .now in
     gives-same (c .before .before .change .ensures)
-    (same-change (a .height) T (a .entries) (a .call)
-    ∙ call-changes (a .height) T (callOf (a .call) (a .entries)) (x .call-refusal .result) (x .call-refusal .ensures)
-    (c .before .before .before .before .if1 .left))
+    (changes (a .height) (a .table .now) (a .call) (a .entries) _ (x .call-refusal .ensures) (c .before .before .before .before .if1 .left))
 
 pub run-spec : {M : Type 1} → statement M
 run-spec =

@@ -2,7 +2,7 @@
 use borrow.Author.Needs.{needs}
 use Rattle.admission.specs.Value.{lent}
 use Rattle.admission.proofs.Admitting.{admitted-same}
-use Rattle.planner.proofs.ByValue.{seven-enough}
+use Rattle.admission.proofs.Requests.{seven-enough}
 use Rattle.planner.proofs.perform_by_value.Statement.{statement}
 use Rattle.planner.proofs.perform_by_value.Tie as tie
 

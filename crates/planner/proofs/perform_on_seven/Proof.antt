@@ -54,11 +54,11 @@ use Rattle.table.proofs.plan.Plan.Laws as P′
 use Rattle.admission.specs.declared.Admitted.{Admitted}
 use Rattle.admission.proofs.Admitted as Ad
 use Rattle.admission.proofs.Admitted.Laws as Ad′
-use Rattle.planner.specs.declared.Request.{Request}
+use Rattle.admission.specs.declared.Request.{Request}
 use Rattle.planner.specs.declared.Report.{Report}
 use Rattle.planner.specs.Performed.{Performed}
-use Rattle.planner.proofs.Request as Rq
-use Rattle.planner.proofs.Request.Laws as Rq′
+use Rattle.admission.proofs.Request as Rq
+use Rattle.admission.proofs.Request.Laws as Rq′
 use Rattle.planner.proofs.Report as Rp
 use Rattle.planner.proofs.Report.Laws as Rp′
 use Rattle.planner.proofs.ByValue.{by-value}

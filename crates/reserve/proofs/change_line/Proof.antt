@@ -50,7 +50,8 @@ long′ : (x : tie.After-changed) → length (x .before .before .before .before 
 long′ x = search needs
 
 kept : (x : tie.After-changed)
-    → length (x .changed .last .1 .1 .0) ≡ length (take (x .before .before .before .before .decode2 .result) (x .before .before .before .before .decode2 .last .1 .0))
+    → length (x .changed .last .1 .1 .0) ≡ length
+    (take (x .before .before .before .before .decode2 .result) (x .before .before .before .before .decode2 .last .1 .0))
 kept x = search needs
 
 returns : tie.Need-returns
@@ -93,7 +94,8 @@ returns-2 c =
     line-done (λ S. step (a .height) S (changing (a .change))) (a .height) (a .table .now) (a .line .now) (d .last .1 .0) (d′ .last .1 .0)
     (x .changed .last .1 .1 .0) (d .result) (d′ .result) (x .changed .result) (long x) (long′ x) (d .ensures .0) (d′ .ensures .0) (kept x)
     (done-lengths (a .height) (stateIn (a .table .now) (a .line .now)) (changing (a .change)) (lined-change (a .change)))
-    (x .changed .ensures .0) (x .changed .ensures .1) (omega (arith, c .before .before .before .before .before .if1 .left)) (c .before .before .encode .last .1 .0)
+    (x .changed .ensures .0) (x .changed .ensures .1) (omega (arith, c .before .before .before .before .before .if1 .left))
+    (c .before .before .encode .last .1 .0)
     (c .before .before .encode .ensures)
 
 pub change-line-spec : {M : Type 1} → statement M

@@ -31,9 +31,8 @@ returns c =
     }
 
 -- past the test the answer is 0
-accepted : (x : tie.Else1)
-    → numberOf (x .before .before .before .before .before .before .before .before .before .before .before .before .before .before .before .before .args
-    .done .answer) ≡ 0
+accepted : (x : tie.Else1) → let y = x .before .before .before .before .before .before in
+    numberOf (y .before .before .before .before .before .before .before .before .before .before .args .done .answer) ≡ 0
 accepted x = sym (x .before .before .before .before .before .before .finish .ensures .answer) ∙ x .if1 .left
 
 encode-requires : tie.Need-encode-requires

@@ -18,7 +18,8 @@ returns c =
     let x = c .before in
     let a = x .before .before .before .before .before .args in
     open-refused (a .height) (a .table .now) (a .line .now) (x .reserve-refusal .result) (x .before .before .lent-count .result)
-    (x .before .lent-count2 .result) (x .before .before .lent-count .ensures) (x .before .lent-count2 .ensures) (x .reserve-refusal .ensures) (c .if1 .taken)
+    (x .before .lent-count2 .result) (x .before .before .lent-count .ensures) (x .before .lent-count2 .ensures) (x .reserve-refusal .ensures)
+    (c .if1 .taken)
 
 clear-requires : tie.Need-clear-requires
 clear-requires c κs = search needs

@@ -1,51 +1,52 @@
--- `admission::grant::line_refusal` meets its contract: what the line decides counts for a tenant that holds nothing, on a table in order.
-use mathlib.Core.Path.{_≡_, refl, sym, _∙_}
-use mathlib.Core.Bool.{Bool, true, false, cond, _&&_}
-use Prim.Native.Nat.{ℕ}
+-- `admission::grant::line_refusal` meets its contract: to one that holds nothing 18 where it waits, and else 10 where somebody was passed as often as
+-- may be.
 use borrow.Author.Needs.{needs}
-use borrow.Author.Tests.{not-true, not-false}
-use denote.Ref.{now}
-use lib.Dec.{eqb}
-use Rattle.table.specs.Table.{nodeAt, in-order?}
 use Rattle.admission.proofs.grant.line_refusal.Statement.{statement}
 use Rattle.admission.proofs.grant.line_refusal.Tie as tie
+use mathlib.Core.Path.{sym, _∙_}
+use borrow.Author.Tests.{eq-eqb, ne-eqb}
 
-zero-either-way : (b : Bool) → _≡_ {A = ℕ} 0 (cond b 0 0)
-zero-either-way true = refl
-zero-either-way false = refl
+mul-if1 : tie.Need-mul-if1
+mul-if1 c = search needs
 
-standing-requires : tie.Need-standing-requires
-standing-requires c κs = search needs
+shared-slice-read-if1 : tie.Need-shared-slice-read-if1
+shared-slice-read-if1 c = search needs
 
 returns : tie.Need-returns
-returns c =
-    let a = c .before .before .before .before .args in
-    let T = now (a .table) in (
-      rw (sym (c .before .standing .ensures) ∙ c .if1 .taken) (zero-either-way (in-order? (a .height) T && eqb (nodeAt T (a .tenant)) 0)),
-      refl,
-    )
+returns c = rw (ne-eqb _ 0 (c .if1 .taken))
 
-vacant-requires : tie.Need-vacant-requires
-vacant-requires c κs = search needs
-
-same-length : tie.Need-same-length
-same-length c = search needs
+waits-requires : tie.Need-waits-requires
+waits-requires c κs = search needs
 
 returns-2 : tie.Need-returns-2
 returns-2 c =
-    let told = c .before .before .before .vacant .ensures in
-    (rw (sym (told .0) ∙ not-true _ (c .if2 .taken)), told .1)
+    let x = c .before .before in
+    rw (eq-eqb _ 0 (x .if1 .left), sym (c .before .waits .ensures) ∙ c .if2 .taken)
 
-same-length-2 : tie.Need-same-length-2
-same-length-2 c = search needs
+barred-requires : tie.Need-barred-requires
+barred-requires c κs = search needs
 
 returns-3 : tie.Need-returns-3
 returns-3 c =
-    let x = c .before .before .before in
-    let told = x .vacant .ensures in
-    (rw (sym (told .0) ∙ not-false _ (c .if2 .left)) (x .before .before .before .standing .ensures), told .1)
+    let y = c .before .before in
+    let x = y .before .before in
+    rw (eq-eqb _ 0 (x .if1 .left), sym (y .before .waits .ensures) ∙ y .if2 .left, sym (c .before .barred .ensures) ∙ c .if3 .taken)
+
+returns-4 : tie.Need-returns-4
+returns-4 c =
+    let y = c .before .before in
+    let x = y .before .before in
+    rw (eq-eqb _ 0 (x .if1 .left), sym (y .before .waits .ensures) ∙ y .if2 .left, sym (c .before .barred .ensures) ∙ c .if3 .left)
 
 pub line-refusal-spec : {M : Type 1} → statement M
 line-refusal-spec =
     tie.close
-    (tie.spec standing-requires returns vacant-requires same-length returns-2 same-length-2 returns-3)
+    (tie.spec
+    mul-if1
+    shared-slice-read-if1
+    returns
+    waits-requires
+    returns-2
+    barred-requires
+    returns-3
+    returns-4)

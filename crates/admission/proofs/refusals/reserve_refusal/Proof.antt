@@ -1,4 +1,4 @@
--- `admission::request::reserve_refusal` meets its contract: what the table's length decides, and else what the line's does.
+-- `admission::refusals::reserve_refusal` meets its contract: what the table's length decides, and else what the line's does.
 use mathlib.Core.Path.{ap}
 use mathlib.Core.Bool.{not}
 use mathlib.Core.List.{[], _∷_}
@@ -8,8 +8,8 @@ use borrow.Author.Tests.{eq-eqb, ne-eqb}
 use lib.Dec.{eqb}
 use Rattle.calls.specs.Step.{check, length-checks}
 use Rattle.admission.proofs.Arguments.{found-first, last-applies, none-applies}
-use Rattle.admission.proofs.request.reserve_refusal.Statement.{statement}
-use Rattle.admission.proofs.request.reserve_refusal.Tie as tie
+use Rattle.admission.proofs.refusals.reserve_refusal.Statement.{statement}
+use Rattle.admission.proofs.refusals.reserve_refusal.Tie as tie
 
 reserve-refusal-requires : tie.Need-reserve-refusal-requires
 reserve-refusal-requires c κs = search needs

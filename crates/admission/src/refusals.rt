@@ -4,7 +4,9 @@ ghost use mathlib.Core.List.{[], _∷_, _++_};
 ghost use lib.Dec.{ltb};
 ghost use Rattle.calls.specs.Step.{check, first, level-check, validity};
 ghost use Rattle.calls.specs.Value.{callOf};
-ghost use Rattle.admission.specs.Inner.{lent-checks};
+ghost use Rattle.admission.specs.Inner.{lent-checks, argument-checks};
+ghost use Rattle.admission.specs.declared.Request.the-variants.{Direct};
+use crate::Request;
 use calls::Call;
 use calls::request::LAST_TENANT;
 use calls::request::call_refusal;
@@ -31,8 +33,39 @@ pub fn reserve_refusal(height: u16, length: usize, numbers: usize) -> u16
     0
 }
 
-// The number of the first of refusals 1 to 6 that applies to a grant, or 0.
-pub fn grant_refusal(height: u16, length: usize, numbers: usize, entries: usize, call: Call) -> u16
+// The number of the first of refusals 1 to 6 that applies to a request, or 0.
+pub fn refusal(height: u16, length: usize, numbers: usize, entries: usize, request: Request) -> u16
+    ensures { λ r. ⌜ r ≡ first (argument-checks height length numbers request entries) ⌝ }
+{
+    match request {
+        Request::Direct { call } => direct_refusal(height, length, numbers, entries, call),
+        Request::Admit => moves_refusal(height, length, numbers, entries),
+    }
+}
+
+// The same of a grant, a release or a growth.
+fn direct_refusal(height: u16, length: usize, numbers: usize, entries: usize, call: Call) -> u16
+    ensures { λ r. ⌜ r ≡ first (argument-checks height length numbers (Direct call) entries) ⌝ }
+{
+    match call {
+        Call::GrantLevel {
+            tenant: _,
+            level: _,
+        } => grant_refusal(height, length, numbers, entries, call),
+        Call::GrantPages {
+            tenant: _,
+            pages: _,
+        } => grant_refusal(height, length, numbers, entries, call),
+        Call::Release { tenant: _ } => call_refusal(height, length, entries, call),
+        Call::Grow {
+            tenant: _,
+            level: _,
+        } => call_refusal(height, length, entries, call),
+    }
+}
+
+// The same of a grant, which takes a line.
+fn grant_refusal(height: u16, length: usize, numbers: usize, entries: usize, call: Call) -> u16
     ensures { λ r. ⌜ r ≡ first (lent-checks height length numbers ++ validity height (callOf call entries)) ⌝ }
 {
     let number = reserve_refusal(height, length, numbers);
@@ -43,7 +76,7 @@ pub fn grant_refusal(height: u16, length: usize, numbers: usize, entries: usize,
 }
 
 // The number of the first of refusals 1 to 3 that applies to an admit, or 0.
-pub fn moves_refusal(height: u16, length: usize, numbers: usize, entries: usize) -> u16
+fn moves_refusal(height: u16, length: usize, numbers: usize, entries: usize) -> u16
     ensures { λ r. ⌜ r ≡ first (lent-checks height length numbers ++ check 3 (ltb entries 4) ∷ []) ⌝ }
 {
     let number = reserve_refusal(height, length, numbers);

@@ -1,4 +1,4 @@
--- `admission::request::level_refusal` meets its contract: what 1, 2 and 4 decide, and else what 5 does.
+-- `admission::refusals::level_refusal` meets its contract: what 1, 2 and 4 decide, and else what 5 does.
 use mathlib.Core.List.{[], _∷_, _++_}
 use native.Mathlib.Omega.{arith}
 use borrow.Author.Needs.{needs}
@@ -7,8 +7,8 @@ use lib.Dec.{ltb}
 use Rattle.calls.specs.Step.{check}
 use Rattle.admission.specs.Inner.{lent-checks}
 use Rattle.admission.proofs.Arguments.{found-first, last-applies, none-applies}
-use Rattle.admission.proofs.request.level_refusal.Statement.{statement}
-use Rattle.admission.proofs.request.level_refusal.Tie as tie
+use Rattle.admission.proofs.refusals.level_refusal.Statement.{statement}
+use Rattle.admission.proofs.refusals.level_refusal.Tie as tie
 
 tenant-refusal-requires : tie.Need-tenant-refusal-requires
 tenant-refusal-requires c κs = search needs
