@@ -142,8 +142,8 @@ fn repeated_against_grant(height: u16, rows: &[Row], counts: &[Count]) -> Option
     Goal::worst("longest repeated grant ÷ median grant, instructions", 1.0, ratios)
 }
 
-/// That a grant with a full line, and an admit, takes at most half as many instructions again as one without: the longest one
-/// against the median grant.
+/// That a grant with a full line, and an admit, takes hardly more than half as many instructions again as one without, which is
+/// what comparing each in line with all behind it costs: the longest one against the median grant.
 fn with_line_against_grant(height: u16, rows: &[Row], counts: &[Count]) -> Option<Goal> {
     let grant = median_grant(height, rows, counts);
     let grants = |call: &str| call == GRANT_WITH_A_LINE || call.starts_with("admit");
@@ -151,7 +151,7 @@ fn with_line_against_grant(height: u16, rows: &[Row], counts: &[Count]) -> Optio
     let ratios = ratios.map(|(count, row)| (count.instructions as f64 / grant, row.name()));
     Goal::worst(
         "longest grant or admit with a full line ÷ median grant, instructions",
-        1.5,
+        1.6,
         ratios,
     )
 }

@@ -31,7 +31,7 @@ fn main() -> ExitCode {
         ["layout", height, ref counts @ ..] => layout(height, counts),
         // Until another planner is put behind the door, the second one stands on both sides of it.
         ["compare", ref numbers @ ..] if numbers.len() <= 2 => {
-            compare::command(&mut Oracle, numbers).map(|tally| tally.failed == 0)
+            compare::command(Oracle, numbers).map(|tally| tally.failed == 0)
         }
         ["conversions", converter, listing, ref numbers @ ..] if numbers.len() <= 2 => {
             conversions(converter, listing, numbers)

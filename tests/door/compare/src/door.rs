@@ -63,6 +63,7 @@ fn record(read: &Read) -> Record {
 }
 
 /// The planner behind the C door. Slices pass as pointer and length, and nothing is checked or mended on the way.
+#[derive(Clone)]
 pub struct Door;
 
 impl Subject for Door {

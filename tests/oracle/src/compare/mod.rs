@@ -21,6 +21,8 @@ mod state;
 use std::error::Error;
 use std::io::{self, Write};
 use std::num::ParseIntError;
+use std::sync::atomic::{AtomicUsize, Ordering};
+use std::thread;
 
 use crate::random::Random;
 use crate::subject::Subject;
@@ -195,9 +197,39 @@ fn tell(
     Ok(tally)
 }
 
+/// The results of all parts, of which two run at a time, each with a planner of its own. They are begun from the last one on,
+/// since the longest is among the last.
+fn two_at_a_time<S: Subject + Clone + Send>(
+    subject: S,
+    amounts: &Amounts,
+) -> impl Iterator<Item = (&'static str, Result<usize, String>)> {
+    let left = AtomicUsize::new(PARTS.len());
+    let one_fewer = || left.fetch_update(Ordering::Relaxed, Ordering::Relaxed, |left| left.checked_sub(1));
+    let work = |mut subject: S| {
+        let mut results = Vec::new();
+        while let Ok(left) = one_fewer() {
+            let place = left - 1;
+            let (name, part) = PARTS[place];
+            let result = part(&mut subject, amounts, &mut random_for(amounts, place));
+            results.push((place, name, result));
+        }
+        results
+    };
+    let mut results = thread::scope(|scope| {
+        let other = subject.clone();
+        let beside = scope.spawn(|| work(other));
+        let mut results = work(subject);
+        results.extend(beside.join().expect("parts that come to an end"));
+        results
+    });
+    results.sort_by_key(|&(place, ..)| place);
+    results.into_iter().map(|(_, name, result)| (name, result))
+}
+
 /// The driver as a command: `[SEED [TIMES]]` are its arguments, and its last line is the tally.
-pub fn command(subject: &mut dyn Subject, arguments: &[&str]) -> Result<Tally, Box<dyn Error>> {
-    let tally = run(subject, &Amounts::from_arguments(arguments)?, &mut io::stdout())?;
+pub fn command(subject: impl Subject + Clone + Send, arguments: &[&str]) -> Result<Tally, Box<dyn Error>> {
+    let amounts = Amounts::from_arguments(arguments)?;
+    let tally = tell(two_at_a_time(subject, &amounts), amounts.seed, &mut io::stdout())?;
     println!("{} passed, {} failed", tally.passed, tally.failed);
     Ok(tally)
 }

@@ -95,9 +95,18 @@ fn one_of_every_kind(random: &mut Random, tree: Tree, start: &Start, newcomer: u
     let level = random.below(tree.height() + 1);
     let pages = random.below(tree.pages_in_all());
     vec![
-        Request::GrantLevel { tenant: tenants[0], level },
-        Request::GrantPages { tenant: tenants[1], pages },
-        Request::Join { tenant: tenants[2], level },
+        Request::GrantLevel {
+            tenant: tenants[0],
+            level,
+        },
+        Request::GrantPages {
+            tenant: tenants[1],
+            pages,
+        },
+        Request::Join {
+            tenant: tenants[2],
+            level,
+        },
         Request::Admit,
         Request::Withdraw { tenant: tenants[3] },
     ]
