@@ -1,12 +1,18 @@
 //! The planners that are compared, behind one set of calls.
 
-use oracle::subject::{Oracle, Subject};
+use oracle::planner::Request;
+use oracle::subject::{Images, Oracle, Reply, Subject};
 use same::door::{self, Admission, Counted, Outcome};
 
 // Not all of them are timed.
 #[allow(dead_code)]
 #[path = "../../tests/door/compare/src/functions.rs"]
 mod functions;
+
+use functions::{
+    lend, reserve_admit, reserve_count, reserve_draw, reserve_grant_level, reserve_grant_pages, reserve_grow,
+    reserve_join, reserve_open, reserve_release, reserve_withdraw,
+};
 
 /// A planner that is timed.
 pub trait Contestant {
@@ -45,28 +51,11 @@ impl Library {
 // The functions are lent the bytes that each pointer and length name, for as long as the call lasts.
 impl Contestant for Library {
     fn open(height: u16, table: &mut [u8], line: &mut [u8]) -> u16 {
-        let (table, table_length) = (table.as_mut_ptr(), table.len());
-        let (line, line_length) = (line.as_mut_ptr(), line.len());
-        unsafe { functions::reserve_open(height, table, table_length, line, line_length) }
+        unsafe { lend!(reserve_open(height, [table, line])) }
     }
 
     fn grant(height: u16, table: &mut [u8], line: &mut [u8], moves: &mut [u8], tenant: u16, level: u16) -> Outcome {
-        let (table, table_length) = (table.as_mut_ptr(), table.len());
-        let (line, line_length) = (line.as_mut_ptr(), line.len());
-        let (moves, moves_length) = (moves.as_mut_ptr(), moves.len());
-        Library::outcome(unsafe {
-            functions::reserve_grant_level(
-                height,
-                table,
-                table_length,
-                line,
-                line_length,
-                moves,
-                moves_length,
-                tenant,
-                level,
-            )
-        })
+        Library::outcome(unsafe { lend!(reserve_grant_level(height, [table, line, moves], tenant, level)) })
     }
 
     fn grant_pages(
@@ -77,52 +66,25 @@ impl Contestant for Library {
         tenant: u16,
         pages: u16,
     ) -> Outcome {
-        let (table, table_length) = (table.as_mut_ptr(), table.len());
-        let (line, line_length) = (line.as_mut_ptr(), line.len());
-        let (moves, moves_length) = (moves.as_mut_ptr(), moves.len());
-        Library::outcome(unsafe {
-            functions::reserve_grant_pages(
-                height,
-                table,
-                table_length,
-                line,
-                line_length,
-                moves,
-                moves_length,
-                tenant,
-                pages,
-            )
-        })
+        Library::outcome(unsafe { lend!(reserve_grant_pages(height, [table, line, moves], tenant, pages)) })
     }
 
     fn release(height: u16, table: &mut [u8], moves: &mut [u8], tenant: u16) -> Outcome {
-        let (table, table_length) = (table.as_mut_ptr(), table.len());
-        let (moves, moves_length) = (moves.as_mut_ptr(), moves.len());
-        Library::outcome(unsafe {
-            functions::reserve_release(height, table, table_length, moves, moves_length, tenant)
-        })
+        Library::outcome(unsafe { lend!(reserve_release(height, [table, moves], tenant)) })
     }
 
     fn grow(height: u16, table: &mut [u8], moves: &mut [u8], tenant: u16, level: u16) -> Outcome {
-        let (table, table_length) = (table.as_mut_ptr(), table.len());
-        let (moves, moves_length) = (moves.as_mut_ptr(), moves.len());
-        Library::outcome(unsafe {
-            functions::reserve_grow(height, table, table_length, moves, moves_length, tenant, level)
-        })
+        Library::outcome(unsafe { lend!(reserve_grow(height, [table, moves], tenant, level)) })
     }
 
     fn join(height: u16, table: &[u8], line: &mut [u8], tenant: u16, level: u16) -> u16 {
         let (table, table_length) = (table.as_ptr(), table.len());
         let (line, line_length) = (line.as_mut_ptr(), line.len());
-        unsafe { functions::reserve_join(height, table, table_length, line, line_length, tenant, level) }
+        unsafe { reserve_join(height, table, table_length, line, line_length, tenant, level) }
     }
 
     fn admit(height: u16, table: &mut [u8], line: &mut [u8], moves: &mut [u8]) -> Admission {
-        let (table, table_length) = (table.as_mut_ptr(), table.len());
-        let (line, line_length) = (line.as_mut_ptr(), line.len());
-        let (moves, moves_length) = (moves.as_mut_ptr(), moves.len());
-        let admission =
-            unsafe { functions::reserve_admit(height, table, table_length, line, line_length, moves, moves_length) };
+        let admission = unsafe { lend!(reserve_admit(height, [table, line, moves])) };
         Admission {
             answer: admission.answer,
             tenant: admission.tenant,
@@ -134,15 +96,15 @@ impl Contestant for Library {
     fn withdraw(height: u16, table: &[u8], line: &mut [u8], tenant: u16) -> u16 {
         let (table, table_length) = (table.as_ptr(), table.len());
         let (line, line_length) = (line.as_mut_ptr(), line.len());
-        unsafe { functions::reserve_withdraw(height, table, table_length, line, line_length, tenant) }
+        unsafe { reserve_withdraw(height, table, table_length, line, line_length, tenant) }
     }
 
     fn draw(height: u16, table: &[u8], map: &mut [u8]) -> u16 {
-        unsafe { functions::reserve_draw(height, table.as_ptr(), table.len(), map.as_mut_ptr(), map.len()) }
+        unsafe { reserve_draw(height, table.as_ptr(), table.len(), map.as_mut_ptr(), map.len()) }
     }
 
     fn count(map: &[u8]) -> Counted {
-        let counted = unsafe { functions::reserve_count(map.as_ptr(), map.len()) };
+        let counted = unsafe { reserve_count(map.as_ptr(), map.len()) };
         Counted {
             answer: counted.answer,
             count: counted.count,
@@ -211,12 +173,28 @@ fn narrow(number: u32) -> u16 {
 }
 
 impl Second {
-    fn outcome(reply: oracle::subject::Reply) -> Outcome {
+    fn call(height: u16, table: &mut [u8], line: &mut [u8], moves: &mut [u8], request: Request) -> Reply {
+        let mut lent = Images {
+            height: height.into(),
+            table,
+            line,
+            moves,
+        };
+        Oracle.call(&mut lent, request)
+    }
+
+    fn outcome(height: u16, table: &mut [u8], line: &mut [u8], moves: &mut [u8], request: Request) -> Outcome {
+        let reply = Second::call(height, table, line, moves, request);
         Outcome {
             answer: narrow(reply.answer),
             node: narrow(reply.node),
             moves: narrow(reply.moves),
         }
+    }
+
+    /// A join or a withdrawal, which only reads the table.
+    fn stand(height: u16, table: &[u8], line: &mut [u8], request: Request) -> u16 {
+        narrow(Second::call(height, &mut table.to_vec(), line, &mut [], request).answer)
     }
 }
 
@@ -226,7 +204,8 @@ impl Contestant for Second {
     }
 
     fn grant(height: u16, table: &mut [u8], line: &mut [u8], moves: &mut [u8], tenant: u16, level: u16) -> Outcome {
-        Second::outcome(Oracle.grant_level(height.into(), table, line, moves, tenant.into(), level.into()))
+        let (tenant, level) = (tenant.into(), level.into());
+        Second::outcome(height, table, line, moves, Request::GrantLevel { tenant, level })
     }
 
     fn grant_pages(
@@ -237,23 +216,27 @@ impl Contestant for Second {
         tenant: u16,
         pages: u16,
     ) -> Outcome {
-        Second::outcome(Oracle.grant_pages(height.into(), table, line, moves, tenant.into(), pages.into()))
+        let (tenant, pages) = (tenant.into(), pages.into());
+        Second::outcome(height, table, line, moves, Request::GrantPages { tenant, pages })
     }
 
     fn release(height: u16, table: &mut [u8], moves: &mut [u8], tenant: u16) -> Outcome {
-        Second::outcome(Oracle.release(height.into(), table, moves, tenant.into()))
+        let tenant = tenant.into();
+        Second::outcome(height, table, &mut [], moves, Request::Release { tenant })
     }
 
     fn grow(height: u16, table: &mut [u8], moves: &mut [u8], tenant: u16, level: u16) -> Outcome {
-        Second::outcome(Oracle.grow(height.into(), table, moves, tenant.into(), level.into()))
+        let (tenant, level) = (tenant.into(), level.into());
+        Second::outcome(height, table, &mut [], moves, Request::Grow { tenant, level })
     }
 
     fn join(height: u16, table: &[u8], line: &mut [u8], tenant: u16, level: u16) -> u16 {
-        narrow(Oracle.join(height.into(), table, line, tenant.into(), level.into()))
+        let (tenant, level) = (tenant.into(), level.into());
+        Second::stand(height, table, line, Request::Join { tenant, level })
     }
 
     fn admit(height: u16, table: &mut [u8], line: &mut [u8], moves: &mut [u8]) -> Admission {
-        let reply = Oracle.admit(height.into(), table, line, moves);
+        let reply = Second::call(height, table, line, moves, Request::Admit);
         Admission {
             answer: narrow(reply.answer),
             tenant: narrow(reply.tenant),
@@ -263,7 +246,8 @@ impl Contestant for Second {
     }
 
     fn withdraw(height: u16, table: &[u8], line: &mut [u8], tenant: u16) -> u16 {
-        narrow(Oracle.withdraw(height.into(), table, line, tenant.into()))
+        let tenant = tenant.into();
+        Second::stand(height, table, line, Request::Withdraw { tenant })
     }
 
     fn draw(height: u16, table: &[u8], map: &mut [u8]) -> u16 {

@@ -87,6 +87,11 @@ impl Request {
         !matches!(self, Request::Release { .. } | Request::Grow { .. })
     }
 
+    /// Whether a list of moves is lent for it.
+    pub fn takes_list(self) -> bool {
+        self.fewest_entries() > 0
+    }
+
     /// The fewest entries that the list may have which is lent for it; none where there is no list.
     pub fn fewest_entries(self) -> usize {
         match self {

@@ -1,10 +1,11 @@
 //! The door to a planner under test.
 //!
-//! [`Subject`] has one method for everything the library can be asked, over numbers and byte images as on the C side.
-//! To put a library behind it, declare its exported functions in an `extern "C"` block and write the methods as calls
-//! of them: each passes the slices on as pointer and length and turns the returned numbers into [`Reply`], [`Pages`],
-//! [`Count`] or [`Reading`]. Nothing may be checked or repaired on the way. If a parameter is narrower than the `u32` here, say so
-//! in [`Subject::reach`], so that no number is handed over that the door cannot take.
+//! [`Subject`] has one method for all planning calls and one for each other thing that the library can be asked, over numbers
+//! and byte images as on the C side. To put a library behind it, declare its exported functions in an `extern "C"` block and
+//! write the methods as calls of them; [`Subject::call`] calls the one that the request belongs to. Each passes the slices on as
+//! pointer and length and turns the returned numbers into [`Reply`], [`Pages`], [`Count`] or [`Reading`]. Nothing may be checked
+//! or repaired on the way. If a parameter is narrower than the `u32` here, say so in [`Subject::reach`], so that no number is
+//! handed over that the door cannot take.
 
 use crate::carrying::Move;
 use crate::definitions::Node;
@@ -88,6 +89,39 @@ pub struct Reach {
     pub pages: u32,
 }
 
+/// What is lent to a planning call. Which of it is handed over, the call decides.
+#[derive(Debug)]
+pub struct Images<'a> {
+    pub height: u32,
+    pub table: &'a mut [u8],
+    pub line: &'a mut [u8],
+    pub moves: &'a mut [u8],
+}
+
+impl Images<'_> {
+    /// The same, to be lent to another.
+    pub fn lent_on(&mut self) -> Images<'_> {
+        Images {
+            height: self.height,
+            table: self.table,
+            line: self.line,
+            moves: self.moves,
+        }
+    }
+
+    /// Without the line or the list that a call does not take.
+    fn taken_for(&mut self, request: Request) -> Images<'_> {
+        let mut taken = self.lent_on();
+        if !request.takes_line() {
+            taken.line = &mut [];
+        }
+        if !request.takes_list() {
+            taken.moves = &mut [];
+        }
+        taken
+    }
+}
+
 /// A planner under test, with everything that the library and its listing program offer.
 pub trait Subject {
     /// How large the numbers may be that the other methods are given.
@@ -103,38 +137,9 @@ pub trait Subject {
     /// Opens a reserve and gives the number answered.
     fn open(&mut self, height: u32, table: &mut [u8], line: &mut [u8]) -> u32;
 
-    fn grant_level(
-        &mut self,
-        height: u32,
-        table: &mut [u8],
-        line: &mut [u8],
-        moves: &mut [u8],
-        tenant: u32,
-        level: u32,
-    ) -> Reply;
-
-    fn grant_pages(
-        &mut self,
-        height: u32,
-        table: &mut [u8],
-        line: &mut [u8],
-        moves: &mut [u8],
-        tenant: u32,
-        pages: u32,
-    ) -> Reply;
-
-    fn release(&mut self, height: u32, table: &mut [u8], moves: &mut [u8], tenant: u32) -> Reply;
-
-    fn grow(&mut self, height: u32, table: &mut [u8], moves: &mut [u8], tenant: u32, level: u32) -> Reply;
-
-    /// Has a tenant wait for a block of a level and gives the number answered.
-    fn join(&mut self, height: u32, table: &[u8], line: &mut [u8], tenant: u32, level: u32) -> u32;
-
-    /// Grants the first in line a block who may have one.
-    fn admit(&mut self, height: u32, table: &mut [u8], line: &mut [u8], moves: &mut [u8]) -> Reply;
-
-    /// Has a tenant wait no longer and gives the number answered.
-    fn withdraw(&mut self, height: u32, table: &[u8], line: &mut [u8], tenant: u32) -> u32;
+    /// Makes a planning call: hands over of what is lent what the call takes. A release and a growth take no line; a join and a
+    /// withdrawal take no list, and only read the table.
+    fn call(&mut self, lent: &mut Images, request: Request) -> Reply;
 
     /// Which pages a node covers in a reserve of a height; any number may be asked.
     fn node_pages(&mut self, height: u32, node: Node) -> Pages;
@@ -152,34 +157,6 @@ pub trait Subject {
 
     /// What the listing program writes for a journal on its standard input.
     fn list(&mut self, journal: &[u8]) -> Vec<u8>;
-}
-
-/// What is lent to a planning call. Which of it is handed over, the call decides.
-#[derive(Debug)]
-pub struct Images<'a> {
-    pub height: u32,
-    pub table: &'a mut [u8],
-    pub line: &'a mut [u8],
-    pub moves: &'a mut [u8],
-}
-
-/// Hands a request to the method it belongs to.
-pub fn ask(subject: &mut dyn Subject, lent: &mut Images, request: Request) -> Reply {
-    let Images {
-        height,
-        table,
-        line,
-        moves,
-    } = lent;
-    match request {
-        Request::GrantLevel { tenant, level } => subject.grant_level(*height, table, line, moves, tenant, level),
-        Request::GrantPages { tenant, pages } => subject.grant_pages(*height, table, line, moves, tenant, pages),
-        Request::Release { tenant } => subject.release(*height, table, moves, tenant),
-        Request::Grow { tenant, level } => subject.grow(*height, table, moves, tenant, level),
-        Request::Join { tenant, level } => Reply::number(subject.join(*height, table, line, tenant, level)),
-        Request::Admit => subject.admit(*height, table, line, moves),
-        Request::Withdraw { tenant } => Reply::number(subject.withdraw(*height, table, line, tenant)),
-    }
 }
 
 /// A table's image.
@@ -245,42 +222,6 @@ pub fn put_moves(moves: &[Move], image: &mut [u8]) {
 #[derive(Clone, Copy, Debug, Default)]
 pub struct Oracle;
 
-impl Oracle {
-    fn plan(lent: Images, request: Request) -> Reply {
-        let outcome = planner::call(
-            Lent {
-                height: lent.height,
-                table: &table_from(lent.table),
-                line: &line_from(lent.line),
-                entries: lent.moves.len() / MOVE_BYTES,
-            },
-            request,
-        );
-        if outcome.answer == DONE {
-            lent.table.copy_from_slice(&table_image(&outcome.table));
-            lent.line.copy_from_slice(&line_image(&outcome.line));
-            put_moves(&outcome.moves, lent.moves);
-        }
-        Reply {
-            answer: outcome.answer,
-            tenant: outcome.admitted.map_or(NOBODY, u32::from),
-            node: outcome.node.into(),
-            moves: outcome.moves.len() as u32,
-        }
-    }
-
-    /// A join or a withdrawal, which changes the line alone.
-    fn stand(height: u32, table: &[u8], line: &mut [u8], request: Request) -> u32 {
-        let lent = Images {
-            height,
-            table: &mut table.to_vec(),
-            line,
-            moves: &mut [],
-        };
-        Oracle::plan(lent, request).answer
-    }
-}
-
 impl Subject for Oracle {
     fn open(&mut self, height: u32, table: &mut [u8], line: &mut [u8]) -> u32 {
         let outcome = planner::open(height, &table_from(table), &line_from(line));
@@ -291,80 +232,28 @@ impl Subject for Oracle {
         outcome.answer
     }
 
-    fn grant_level(
-        &mut self,
-        height: u32,
-        table: &mut [u8],
-        line: &mut [u8],
-        moves: &mut [u8],
-        tenant: u32,
-        level: u32,
-    ) -> Reply {
-        let lent = Images {
-            height,
-            table,
-            line,
-            moves,
-        };
-        Oracle::plan(lent, Request::GrantLevel { tenant, level })
-    }
-
-    fn grant_pages(
-        &mut self,
-        height: u32,
-        table: &mut [u8],
-        line: &mut [u8],
-        moves: &mut [u8],
-        tenant: u32,
-        pages: u32,
-    ) -> Reply {
-        let lent = Images {
-            height,
-            table,
-            line,
-            moves,
-        };
-        Oracle::plan(lent, Request::GrantPages { tenant, pages })
-    }
-
-    fn release(&mut self, height: u32, table: &mut [u8], moves: &mut [u8], tenant: u32) -> Reply {
-        let line = &mut [];
-        let lent = Images {
-            height,
-            table,
-            line,
-            moves,
-        };
-        Oracle::plan(lent, Request::Release { tenant })
-    }
-
-    fn grow(&mut self, height: u32, table: &mut [u8], moves: &mut [u8], tenant: u32, level: u32) -> Reply {
-        let line = &mut [];
-        let lent = Images {
-            height,
-            table,
-            line,
-            moves,
-        };
-        Oracle::plan(lent, Request::Grow { tenant, level })
-    }
-
-    fn join(&mut self, height: u32, table: &[u8], line: &mut [u8], tenant: u32, level: u32) -> u32 {
-        Oracle::stand(height, table, line, Request::Join { tenant, level })
-    }
-
-    fn admit(&mut self, height: u32, table: &mut [u8], line: &mut [u8], moves: &mut [u8]) -> Reply {
-        let lent = Images {
-            height,
-            table,
-            line,
-            moves,
-        };
-        Oracle::plan(lent, Request::Admit)
-    }
-
-    fn withdraw(&mut self, height: u32, table: &[u8], line: &mut [u8], tenant: u32) -> u32 {
-        Oracle::stand(height, table, line, Request::Withdraw { tenant })
+    fn call(&mut self, lent: &mut Images, request: Request) -> Reply {
+        let taken = lent.taken_for(request);
+        let outcome = planner::call(
+            Lent {
+                height: taken.height,
+                table: &table_from(taken.table),
+                line: &line_from(taken.line),
+                entries: taken.moves.len() / MOVE_BYTES,
+            },
+            request,
+        );
+        if outcome.answer == DONE {
+            taken.table.copy_from_slice(&table_image(&outcome.table));
+            taken.line.copy_from_slice(&line_image(&outcome.line));
+            put_moves(&outcome.moves, taken.moves);
+        }
+        Reply {
+            answer: outcome.answer,
+            tenant: outcome.admitted.map_or(NOBODY, u32::from),
+            node: outcome.node.into(),
+            moves: outcome.moves.len() as u32,
+        }
     }
 
     fn node_pages(&mut self, height: u32, node: Node) -> Pages {

@@ -12,8 +12,8 @@ use oracle::page_map::{self, MAP_BYTES};
 use oracle::planner::{self, Lent, Outcome, Request, Rules, TENANTS};
 use oracle::refusal::Refusal;
 use oracle::subject::{
-    moves_from, put_moves, Oracle, Subject, FEWEST_MOVE_BYTES, FEWEST_MOVE_BYTES_TO_GROW, LINE_BYTES, MOVE_BYTES,
-    TABLE_BYTES,
+    moves_from, put_moves, Images, Oracle, Subject, FEWEST_MOVE_BYTES, FEWEST_MOVE_BYTES_TO_GROW, LINE_BYTES,
+    MOVE_BYTES, TABLE_BYTES,
 };
 
 /// Counts from those of the lowest levels.
@@ -249,7 +249,13 @@ fn fewer_than_56_bytes_are_too_short_a_list_for_a_growth() {
         let mut moves = vec![0xa5; length];
         let mut image = vec![0; 2 * TENANTS];
         image[0] = 2;
-        let reply = Oracle.grow(2, &mut image, &mut moves, 0, level);
+        let mut images = Images {
+            height: 2,
+            table: &mut image,
+            line: &mut [],
+            moves: &mut moves,
+        };
+        let reply = Oracle.call(&mut images, grow(0, level));
         assert_eq!(
             reply.answer,
             if length < 56 { 3 } else { 0 },
@@ -721,8 +727,13 @@ fn moves_are_four_numbers_of_two_bytes() {
 fn fewer_than_32_bytes_are_too_short_a_list() {
     for length in 0..=64 {
         let mut moves = vec![0xa5; length];
-        let (mut table, mut line) = (vec![0; TABLE_BYTES], vec![0; LINE_BYTES]);
-        let reply = Oracle.grant_level(0, &mut table, &mut line, &mut moves, 0, 0);
+        let mut images = Images {
+            height: 0,
+            table: &mut [0; TABLE_BYTES],
+            line: &mut [0; LINE_BYTES],
+            moves: &mut moves,
+        };
+        let reply = Oracle.call(&mut images, grant(0, 0));
         assert_eq!(reply.answer, if length < 32 { 3 } else { 0 }, "{length} bytes");
         assert!(moves.iter().all(|&byte| byte == 0xa5));
     }

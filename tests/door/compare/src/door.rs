@@ -2,7 +2,8 @@
 
 use oracle::definitions::Node;
 use oracle::journal::{Reading, Record};
-use oracle::subject::{self, Count, Reach, Reply, Subject, NOBODY};
+use oracle::planner::Request;
+use oracle::subject::{self, Count, Images, Reach, Reply, Subject, NOBODY};
 
 use crate::functions::*;
 use crate::listing;
@@ -78,101 +79,46 @@ impl Subject for Door {
     }
 
     fn open(&mut self, height: u32, table: &mut [u8], line: &mut [u8]) -> u32 {
-        let (table, table_length) = (table.as_mut_ptr(), table.len());
-        let (line, line_length) = (line.as_mut_ptr(), line.len());
-        unsafe { reserve_open(narrow(height), table, table_length, line, line_length) }.into()
+        unsafe { lend!(reserve_open(narrow(height), [table, line])) }.into()
     }
 
-    fn grant_level(
-        &mut self,
-        height: u32,
-        table: &mut [u8],
-        line: &mut [u8],
-        moves: &mut [u8],
-        tenant: u32,
-        level: u32,
-    ) -> Reply {
-        let (table, table_length) = (table.as_mut_ptr(), table.len());
-        let (line, line_length) = (line.as_mut_ptr(), line.len());
-        let (moves, moves_length) = (moves.as_mut_ptr(), moves.len());
-        let (height, tenant, level) = (narrow(height), narrow(tenant), narrow(level));
-        let outcome = unsafe {
-            reserve_grant_level(
-                height,
-                table,
-                table_length,
-                line,
-                line_length,
-                moves,
-                moves_length,
-                tenant,
-                level,
-            )
-        };
-        outcome.into()
-    }
-
-    fn grant_pages(
-        &mut self,
-        height: u32,
-        table: &mut [u8],
-        line: &mut [u8],
-        moves: &mut [u8],
-        tenant: u32,
-        pages: u32,
-    ) -> Reply {
-        let (table, table_length) = (table.as_mut_ptr(), table.len());
-        let (line, line_length) = (line.as_mut_ptr(), line.len());
-        let (moves, moves_length) = (moves.as_mut_ptr(), moves.len());
-        let (height, tenant, pages) = (narrow(height), narrow(tenant), narrow(pages));
-        let outcome = unsafe {
-            reserve_grant_pages(
-                height,
-                table,
-                table_length,
-                line,
-                line_length,
-                moves,
-                moves_length,
-                tenant,
-                pages,
-            )
-        };
-        outcome.into()
-    }
-
-    fn release(&mut self, height: u32, table: &mut [u8], moves: &mut [u8], tenant: u32) -> Reply {
-        let (table, table_length) = (table.as_mut_ptr(), table.len());
-        let (moves, moves_length) = (moves.as_mut_ptr(), moves.len());
-        unsafe { reserve_release(narrow(height), table, table_length, moves, moves_length, narrow(tenant)) }.into()
-    }
-
-    fn grow(&mut self, height: u32, table: &mut [u8], moves: &mut [u8], tenant: u32, level: u32) -> Reply {
-        let (table, table_length) = (table.as_mut_ptr(), table.len());
-        let (moves, moves_length) = (moves.as_mut_ptr(), moves.len());
-        let (height, tenant, level) = (narrow(height), narrow(tenant), narrow(level));
-        unsafe { reserve_grow(height, table, table_length, moves, moves_length, tenant, level) }.into()
-    }
-
-    fn join(&mut self, height: u32, table: &[u8], line: &mut [u8], tenant: u32, level: u32) -> u32 {
-        let (table, table_length) = (table.as_ptr(), table.len());
-        let (line, line_length) = (line.as_mut_ptr(), line.len());
-        let (height, tenant, level) = (narrow(height), narrow(tenant), narrow(level));
-        unsafe { reserve_join(height, table, table_length, line, line_length, tenant, level) }.into()
-    }
-
-    fn admit(&mut self, height: u32, table: &mut [u8], line: &mut [u8], moves: &mut [u8]) -> Reply {
-        let (table, table_length) = (table.as_mut_ptr(), table.len());
-        let (line, line_length) = (line.as_mut_ptr(), line.len());
-        let (moves, moves_length) = (moves.as_mut_ptr(), moves.len());
-        let height = narrow(height);
-        unsafe { reserve_admit(height, table, table_length, line, line_length, moves, moves_length) }.into()
-    }
-
-    fn withdraw(&mut self, height: u32, table: &[u8], line: &mut [u8], tenant: u32) -> u32 {
-        let (table, table_length) = (table.as_ptr(), table.len());
-        let (line, line_length) = (line.as_mut_ptr(), line.len());
-        unsafe { reserve_withdraw(narrow(height), table, table_length, line, line_length, narrow(tenant)) }.into()
+    fn call(&mut self, lent: &mut Images, request: Request) -> Reply {
+        let Images {
+            height,
+            table,
+            line,
+            moves,
+        } = lent;
+        let height = narrow(*height);
+        unsafe {
+            match request {
+                Request::GrantLevel { tenant, level } => lend!(reserve_grant_level(
+                    height,
+                    [table, line, moves],
+                    narrow(tenant),
+                    narrow(level)
+                ))
+                .into(),
+                Request::GrantPages { tenant, pages } => lend!(reserve_grant_pages(
+                    height,
+                    [table, line, moves],
+                    narrow(tenant),
+                    narrow(pages)
+                ))
+                .into(),
+                Request::Release { tenant } => lend!(reserve_release(height, [table, moves], narrow(tenant))).into(),
+                Request::Grow { tenant, level } => {
+                    lend!(reserve_grow(height, [table, moves], narrow(tenant), narrow(level))).into()
+                }
+                Request::Join { tenant, level } => {
+                    Reply::number(lend!(reserve_join(height, [table, line], narrow(tenant), narrow(level))).into())
+                }
+                Request::Admit => lend!(reserve_admit(height, [table, line, moves])).into(),
+                Request::Withdraw { tenant } => {
+                    Reply::number(lend!(reserve_withdraw(height, [table, line], narrow(tenant))).into())
+                }
+            }
+        }
     }
 
     fn node_pages(&mut self, height: u32, node: Node) -> subject::Pages {

@@ -123,3 +123,11 @@ extern "C" {
     pub fn reserve_write_admit(out: *mut u8, out_length: usize) -> Written;
     pub fn reserve_write_withdraw(tenant: u16, out: *mut u8, out_length: usize) -> Written;
 }
+
+/// A call of one of these functions, with the slices between the brackets passed as pointer and length.
+macro_rules! lend {
+    ($function:ident($height:expr, [$($slice:expr),+] $(, $number:expr)*)) => {
+        $function($height, $($slice.as_mut_ptr(), $slice.len(),)+ $($number),*)
+    };
+}
+pub(crate) use lend;

@@ -6,13 +6,16 @@
 //! on one more level, a growth that moves seven, two movers in another order, a line that fills up, a tenant passed once more.
 
 use std::hash::{DefaultHasher, Hash, Hasher};
+use std::mem::discriminant;
 use std::ptr::addr_of_mut;
 
+use oracle::carrying::Move;
 use oracle::definitions::{Node, Tree, TALLEST};
 use oracle::journal::{Reading, Record};
 use oracle::line::MOST_WAITING;
+use oracle::planner::Request;
 use oracle::refusal::DONE;
-use oracle::subject::{line_from, moves_from, Count, Pages, Reach, Reply, Subject};
+use oracle::subject::{line_from, moves_from, Count, Images, Pages, Reach, Reply, Subject};
 
 const COUNTERS: usize = 1 << 13;
 
@@ -31,51 +34,37 @@ fn count(what: impl Hash) {
     }
 }
 
-#[derive(Clone, Copy, Hash)]
-enum Kind {
-    GrantLevel,
-    GrantPages,
-    Release,
-    Grow,
-    Join,
-    Admit,
-    Withdraw,
-}
+/// Stands for all grants, which have the same lists.
+const ANY_GRANT: Request = Request::GrantLevel { tenant: 0, level: 0 };
 
 /// A planner that is watched.
 pub struct Watched<S>(pub S);
 
-fn note_answer(kind: Kind, height: u32, answer: u32) {
-    count((kind, height.min(TALLEST + 1), answer));
+fn note_answer(height: u32, request: Request, answer: u32) {
+    count((discriminant(&request), height.min(TALLEST + 1), answer));
 }
 
-fn note_line(kind: Kind, line: &[u8], answer: u32) {
+fn note_line(line: &[u8], request: Request, answer: u32) {
     if let [waiting, triples @ ..] = line_from(line).as_slice() {
         let number = usize::from(*waiting).min(MOST_WAITING);
         let most_passed = triples.chunks_exact(3).take(number).map(|waiting| waiting[2]).max();
-        count((kind, answer, number.checked_ilog2(), most_passed));
+        count((discriminant(&request), answer, number.checked_ilog2(), most_passed));
     }
 }
 
-fn note(kind: Kind, height: u32, moves: &[u8], reply: Reply) -> Reply {
-    note_answer(kind, height, reply.answer);
-    if reply.answer == DONE && height <= TALLEST {
-        let tree = Tree::new(height);
-        let in_tree = |node: u16| (1..=tree.last_node()).contains(&node);
-        let moves = moves_from(moves, reply.moves);
-        let list: Vec<(u32, bool)> = moves
-            .iter()
-            .filter(|step| in_tree(step.old))
-            .map(|step| (tree.level(step.old), step.staged))
-            .collect();
-        // All grants have the same lists.
-        let kind = match kind {
-            Kind::GrantPages | Kind::Admit => Kind::GrantLevel,
-            _ => kind,
-        };
-        count((kind, list));
-    }
-    reply
+fn note_list(height: u32, moves: &[Move], request: Request) {
+    let tree = Tree::new(height);
+    let in_tree = |node: u16| (1..=tree.last_node()).contains(&node);
+    let list: Vec<(u32, bool)> = moves
+        .iter()
+        .filter(|step| in_tree(step.old))
+        .map(|step| (tree.level(step.old), step.staged))
+        .collect();
+    let kind = match request {
+        Request::GrantPages { .. } | Request::Admit => ANY_GRANT,
+        _ => request,
+    };
+    count((discriminant(&kind), list));
 }
 
 impl<S: Subject> Subject for Watched<S> {
@@ -87,62 +76,16 @@ impl<S: Subject> Subject for Watched<S> {
         self.0.open(height, table, line)
     }
 
-    fn grant_level(
-        &mut self,
-        height: u32,
-        table: &mut [u8],
-        line: &mut [u8],
-        moves: &mut [u8],
-        tenant: u32,
-        level: u32,
-    ) -> Reply {
-        let reply = self.0.grant_level(height, table, line, moves, tenant, level);
-        note_line(Kind::GrantLevel, line, reply.answer);
-        note(Kind::GrantLevel, height, moves, reply)
-    }
-
-    fn grant_pages(
-        &mut self,
-        height: u32,
-        table: &mut [u8],
-        line: &mut [u8],
-        moves: &mut [u8],
-        tenant: u32,
-        pages: u32,
-    ) -> Reply {
-        let reply = self.0.grant_pages(height, table, line, moves, tenant, pages);
-        note_line(Kind::GrantPages, line, reply.answer);
-        note(Kind::GrantPages, height, moves, reply)
-    }
-
-    fn release(&mut self, height: u32, table: &mut [u8], moves: &mut [u8], tenant: u32) -> Reply {
-        let reply = self.0.release(height, table, moves, tenant);
-        note(Kind::Release, height, moves, reply)
-    }
-
-    fn grow(&mut self, height: u32, table: &mut [u8], moves: &mut [u8], tenant: u32, level: u32) -> Reply {
-        let reply = self.0.grow(height, table, moves, tenant, level);
-        note(Kind::Grow, height, moves, reply)
-    }
-
-    fn join(&mut self, height: u32, table: &[u8], line: &mut [u8], tenant: u32, level: u32) -> u32 {
-        let answer = self.0.join(height, table, line, tenant, level);
-        note_line(Kind::Join, line, answer);
-        note_answer(Kind::Join, height, answer);
-        answer
-    }
-
-    fn admit(&mut self, height: u32, table: &mut [u8], line: &mut [u8], moves: &mut [u8]) -> Reply {
-        let reply = self.0.admit(height, table, line, moves);
-        note_line(Kind::Admit, line, reply.answer);
-        note(Kind::Admit, height, moves, reply)
-    }
-
-    fn withdraw(&mut self, height: u32, table: &[u8], line: &mut [u8], tenant: u32) -> u32 {
-        let answer = self.0.withdraw(height, table, line, tenant);
-        note_line(Kind::Withdraw, line, answer);
-        note_answer(Kind::Withdraw, height, answer);
-        answer
+    fn call(&mut self, lent: &mut Images, request: Request) -> Reply {
+        let reply = self.0.call(lent, request);
+        note_answer(lent.height, request, reply.answer);
+        if request.takes_line() {
+            note_line(lent.line, request, reply.answer);
+        }
+        if request.takes_list() && reply.answer == DONE && lent.height <= TALLEST {
+            note_list(lent.height, &moves_from(lent.moves, reply.moves), request);
+        }
+        reply
     }
 
     fn node_pages(&mut self, height: u32, node: Node) -> Pages {

@@ -16,7 +16,7 @@ use crate::random::Random;
 use crate::refusal::{Refusal, DONE};
 use crate::shrink::shorten;
 use crate::subject::{
-    ask, moves_from, Images, Oracle, Reply, Subject, FEWEST_MOVE_BYTES, LINE_BYTES, MOVE_BYTES, TABLE_BYTES,
+    moves_from, Images, Oracle, Reply, Subject, FEWEST_MOVE_BYTES, LINE_BYTES, MOVE_BYTES, TABLE_BYTES,
 };
 
 /// What both planners made of a call.
@@ -39,14 +39,14 @@ pub fn same_call(subject: &mut dyn Subject, height: u32, state: &State, call: &C
         line: &mut right_state.line,
         moves: &mut right_moves,
     };
-    let right = ask(&mut Oracle, &mut right_images, call.request);
+    let right = Oracle.call(&mut right_images, call.request);
     let mut images = Images {
         height,
         table: table.lend(),
         line: line.lend(),
         moves: moves.lend(),
     };
-    let reply = ask(subject, &mut images, call.request);
+    let reply = subject.call(&mut images, call.request);
     ensure!(reply == right, "the reply is {reply:?}, and {right:?} is right");
     table.expect("table", &right_state.table)?;
     line.expect("line", &right_state.line)?;
@@ -366,7 +366,7 @@ fn newcomer_gets_the_same(subject: &mut dyn Subject, book: &Book, ends: &[State]
                 line: &mut state.line,
                 moves: &mut pattern(FEWEST_MOVE_BYTES),
             };
-            let reply = ask(subject, &mut images, request);
+            let reply = subject.call(&mut images, request);
             ensure!(
                 reply.answer == due && reply.moves as usize <= MOST_FOR_GRANT,
                 "{request:?} gets {reply:?}, and {due} is due"

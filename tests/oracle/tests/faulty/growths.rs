@@ -80,7 +80,8 @@ impl GrowthFault {
             }
             GrowthFault::NothingHeldTakenForAGrant if is_due(Refusal::HoldsNothing) => {
                 let line = &mut line_image(&line::EMPTY);
-                Some(Oracle.grant_level(lent.height, lent.table, line, lent.moves, tenant, level))
+                let mut with_line = Images { line, ..lent.lent_on() };
+                Some(Oracle.call(&mut with_line, Request::GrantLevel { tenant, level }))
             }
             GrowthFault::NoRoomBeforeNothingHeld
                 if is_due(Refusal::HoldsNothing) && pages_held(tree, &before) + (1 << level) > tree.pages_in_all() =>

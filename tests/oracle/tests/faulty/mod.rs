@@ -21,23 +21,6 @@ macro_rules! as_the_oracle {
     };
 }
 
-/// The calls of the line, where they do not differ from the second planner's.
-macro_rules! with_the_oracles_line {
-    () => {
-        fn join(&mut self, height: u32, table: &[u8], line: &mut [u8], tenant: u32, level: u32) -> u32 {
-            Oracle.join(height, table, line, tenant, level)
-        }
-
-        fn admit(&mut self, height: u32, table: &mut [u8], line: &mut [u8], moves: &mut [u8]) -> Reply {
-            Oracle.admit(height, table, line, moves)
-        }
-
-        fn withdraw(&mut self, height: u32, table: &[u8], line: &mut [u8], tenant: u32) -> u32 {
-            Oracle.withdraw(height, table, line, tenant)
-        }
-    };
-}
-
 pub mod growths;
 pub mod lists;
 pub mod repeats;
@@ -53,7 +36,7 @@ use oracle::page_map::MAP_BYTES;
 use oracle::planner::Request;
 use oracle::refusal::{Refusal, DONE};
 use oracle::subject::{
-    ask, fewest_move_bytes, moves_from, put_moves, table_from, table_image, Count, Images, Oracle, Pages, Reach, Reply,
+    fewest_move_bytes, moves_from, put_moves, table_from, table_image, Count, Images, Oracle, Pages, Reach, Reply,
     Subject, MOVE_BYTES, TABLE_BYTES,
 };
 use repeats::RepeatFault;
@@ -275,7 +258,7 @@ fn right_reply(lent: &Images, request: Request) -> Reply {
         line: &mut lent.line.to_vec(),
         moves: &mut lent.moves.to_vec(),
     };
-    ask(&mut Oracle, &mut unwritten, request)
+    Oracle.call(&mut unwritten, request)
 }
 
 /// The table before a call and its request, with what somebody makes of them.
@@ -424,24 +407,22 @@ fn into_longer_list(lent: &mut Images, request: Request) -> Reply {
     let mut longer = lent.moves.to_vec();
     longer.resize(fewest_move_bytes(request).max(longer.len()), 0);
     let mut with_longer = Images {
-        height: lent.height,
-        table: lent.table,
-        line: lent.line,
         moves: &mut longer,
+        ..lent.lent_on()
     };
-    let reply = ask(&mut Oracle, &mut with_longer, request);
+    let reply = Oracle.call(&mut with_longer, request);
     lent.moves.copy_from_slice(&longer[..lent.moves.len()]);
     reply
 }
 
 impl Faulty {
-    fn plan(&self, mut lent: Images, request: Request) -> Reply {
-        if let Some(reply) = self.wrong_before(&mut lent, request) {
+    fn plan(&self, lent: &mut Images, request: Request) -> Reply {
+        if let Some(reply) = self.wrong_before(lent, request) {
             return reply;
         }
         let before = table_from(lent.table);
         let lent_moves = lent.moves.to_vec();
-        let reply = ask(&mut Oracle, &mut lent, request);
+        let reply = Oracle.call(lent, request);
         if reply.answer == DONE {
             let wrong = Wrong {
                 tree: Tree::new(lent.height),
@@ -463,7 +444,7 @@ impl Faulty {
             (Fault::TenantBeforeTheList, _) if reserve_is_fine && tenant > 4095 => refused(Refusal::Tenant),
             (Fault::TenantCutToTwelveBits, Request::Release { tenant }) if tenant > 0xffff => {
                 let tenant = tenant & 0xfff;
-                ask(&mut Oracle, lent, Request::Release { tenant })
+                Oracle.call(lent, Request::Release { tenant })
             }
             (Fault::PagesBeforeTheTenant, Request::GrantPages { pages, .. })
                 if reserve_is_fine && list_is_fine && pages >= 1 << lent.height =>
@@ -472,32 +453,29 @@ impl Faulty {
             }
             (_, Request::GrantPages { tenant, pages }) if reserve_is_fine && Fault::SIZES.contains(&self.0) => {
                 let request = self.other_size(lent.height, tenant, pages);
-                ask(&mut Oracle, lent, request)
+                Oracle.call(lent, request)
             }
             (Fault::LongerTableTaken, _) if lent.table.len() > TABLE_BYTES => {
-                let mut cut = Images {
-                    height: lent.height,
-                    table: &mut lent.table[..TABLE_BYTES],
-                    line: lent.line,
-                    moves: lent.moves,
-                };
-                ask(&mut Oracle, &mut cut, request)
+                let mut cut = lent.lent_on();
+                cut.table = &mut cut.table[..TABLE_BYTES];
+                Oracle.call(&mut cut, request)
             }
             (Fault::LongerMoveListRefused, _) if !lent.moves.len().is_multiple_of(MOVE_BYTES) => {
                 let mut without_list = Images {
-                    height: lent.height,
-                    table: lent.table,
-                    line: lent.line,
                     moves: &mut [],
+                    ..lent.lent_on()
                 };
-                ask(&mut Oracle, &mut without_list, request)
+                Oracle.call(&mut without_list, request)
             }
             (Fault::ThreeEntriesTaken, _) if lent.moves.len() / MOVE_BYTES == 3 && !request.is_growth() => {
                 into_longer_list(lent, request)
             }
             (Fault::TallerTreeTaken, _) if lent.height == 13 => {
-                lent.height = 12;
-                ask(&mut Oracle, lent, request)
+                let mut lower = Images {
+                    height: 12,
+                    ..lent.lent_on()
+                };
+                Oracle.call(&mut lower, request)
             }
             (Fault::Growth(fault), Request::Grow { tenant, level }) => return fault.instead(lent, tenant, level),
             (Fault::Repeat(fault), _) if request.is_grant() => return fault.instead(lent, request),
@@ -713,65 +691,13 @@ impl Subject for Faulty {
         }
     }
 
-    fn grant_level(
-        &mut self,
-        height: u32,
-        table: &mut [u8],
-        line: &mut [u8],
-        moves: &mut [u8],
-        tenant: u32,
-        level: u32,
-    ) -> Reply {
-        let lent = Images {
-            height,
-            table,
-            line,
-            moves,
-        };
-        self.plan(lent, Request::GrantLevel { tenant, level })
+    /// There is no mistake in the calls of the line.
+    fn call(&mut self, lent: &mut Images, request: Request) -> Reply {
+        match request {
+            Request::Join { .. } | Request::Admit | Request::Withdraw { .. } => Oracle.call(lent, request),
+            _ => self.plan(lent, request),
+        }
     }
-
-    fn grant_pages(
-        &mut self,
-        height: u32,
-        table: &mut [u8],
-        line: &mut [u8],
-        moves: &mut [u8],
-        tenant: u32,
-        pages: u32,
-    ) -> Reply {
-        let lent = Images {
-            height,
-            table,
-            line,
-            moves,
-        };
-        self.plan(lent, Request::GrantPages { tenant, pages })
-    }
-
-    fn release(&mut self, height: u32, table: &mut [u8], moves: &mut [u8], tenant: u32) -> Reply {
-        let line = &mut [];
-        let lent = Images {
-            height,
-            table,
-            line,
-            moves,
-        };
-        self.plan(lent, Request::Release { tenant })
-    }
-
-    fn grow(&mut self, height: u32, table: &mut [u8], moves: &mut [u8], tenant: u32, level: u32) -> Reply {
-        let line = &mut [];
-        let lent = Images {
-            height,
-            table,
-            line,
-            moves,
-        };
-        self.plan(lent, Request::Grow { tenant, level })
-    }
-
-    with_the_oracles_line!();
 
     fn node_pages(&mut self, height: u32, node: Node) -> Pages {
         let mut pages = Oracle.node_pages(height, node);
@@ -936,11 +862,15 @@ fn refused_for_its_list(line: &str) -> String {
 /// repeated.
 pub struct ThirdOfItsSize;
 
-impl ThirdOfItsSize {
-    fn grant(&self, mut lent: Images, request: Request) -> Reply {
+impl Subject for ThirdOfItsSize {
+    fn open(&mut self, height: u32, table: &mut [u8], line: &mut [u8]) -> u32 {
+        Oracle.open(height, table, line)
+    }
+
+    fn call(&mut self, lent: &mut Images, request: Request) -> Reply {
         let before = table_from(lent.table);
-        let reply = ask(&mut Oracle, &mut lent, request);
-        if reply.answer != DONE || table_from(lent.table) == before {
+        let reply = Oracle.call(lent, request);
+        if !request.is_grant() || reply.answer != DONE || table_from(lent.table) == before {
             return reply;
         }
         let tree = Tree::new(lent.height);
@@ -954,58 +884,6 @@ impl ThirdOfItsSize {
             _ => reply,
         }
     }
-}
-
-impl Subject for ThirdOfItsSize {
-    fn open(&mut self, height: u32, table: &mut [u8], line: &mut [u8]) -> u32 {
-        Oracle.open(height, table, line)
-    }
-
-    fn grant_level(
-        &mut self,
-        height: u32,
-        table: &mut [u8],
-        line: &mut [u8],
-        moves: &mut [u8],
-        tenant: u32,
-        level: u32,
-    ) -> Reply {
-        let lent = Images {
-            height,
-            table,
-            line,
-            moves,
-        };
-        self.grant(lent, Request::GrantLevel { tenant, level })
-    }
-
-    fn grant_pages(
-        &mut self,
-        height: u32,
-        table: &mut [u8],
-        line: &mut [u8],
-        moves: &mut [u8],
-        tenant: u32,
-        pages: u32,
-    ) -> Reply {
-        let lent = Images {
-            height,
-            table,
-            line,
-            moves,
-        };
-        self.grant(lent, Request::GrantPages { tenant, pages })
-    }
-
-    fn release(&mut self, height: u32, table: &mut [u8], moves: &mut [u8], tenant: u32) -> Reply {
-        Oracle.release(height, table, moves, tenant)
-    }
-
-    fn grow(&mut self, height: u32, table: &mut [u8], moves: &mut [u8], tenant: u32, level: u32) -> Reply {
-        Oracle.grow(height, table, moves, tenant, level)
-    }
-
-    with_the_oracles_line!();
 
     fn node_pages(&mut self, height: u32, node: Node) -> Pages {
         Oracle.node_pages(height, node)
@@ -1025,10 +903,6 @@ fn eight_bits(number: u32) -> u32 {
     u8::try_from(number).expect("a number of 8 bits").into()
 }
 
-fn sixteen_bits(number: u32) -> u32 {
-    u16::try_from(number).expect("a number of 16 bits").into()
-}
-
 impl Subject for Narrow {
     fn reach(&self) -> Reach {
         Reach {
@@ -1043,52 +917,13 @@ impl Subject for Narrow {
         Oracle.open(eight_bits(height), table, line)
     }
 
-    fn grant_level(
-        &mut self,
-        height: u32,
-        table: &mut [u8],
-        line: &mut [u8],
-        moves: &mut [u8],
-        tenant: u32,
-        level: u32,
-    ) -> Reply {
-        let (height, tenant, level) = (eight_bits(height), sixteen_bits(tenant), eight_bits(level));
-        Oracle.grant_level(height, table, line, moves, tenant, level)
-    }
-
-    fn grant_pages(
-        &mut self,
-        height: u32,
-        table: &mut [u8],
-        line: &mut [u8],
-        moves: &mut [u8],
-        tenant: u32,
-        pages: u32,
-    ) -> Reply {
-        let (height, tenant, pages) = (eight_bits(height), sixteen_bits(tenant), sixteen_bits(pages));
-        Oracle.grant_pages(height, table, line, moves, tenant, pages)
-    }
-
-    fn release(&mut self, height: u32, table: &mut [u8], moves: &mut [u8], tenant: u32) -> Reply {
-        Oracle.release(eight_bits(height), table, moves, sixteen_bits(tenant))
-    }
-
-    fn grow(&mut self, height: u32, table: &mut [u8], moves: &mut [u8], tenant: u32, level: u32) -> Reply {
-        let (height, tenant, level) = (eight_bits(height), sixteen_bits(tenant), eight_bits(level));
-        Oracle.grow(height, table, moves, tenant, level)
-    }
-
-    fn join(&mut self, height: u32, table: &[u8], line: &mut [u8], tenant: u32, level: u32) -> u32 {
-        let (height, tenant, level) = (eight_bits(height), sixteen_bits(tenant), eight_bits(level));
-        Oracle.join(height, table, line, tenant, level)
-    }
-
-    fn admit(&mut self, height: u32, table: &mut [u8], line: &mut [u8], moves: &mut [u8]) -> Reply {
-        Oracle.admit(eight_bits(height), table, line, moves)
-    }
-
-    fn withdraw(&mut self, height: u32, table: &[u8], line: &mut [u8], tenant: u32) -> u32 {
-        Oracle.withdraw(eight_bits(height), table, line, sixteen_bits(tenant))
+    fn call(&mut self, lent: &mut Images, request: Request) -> Reply {
+        let reach = self.reach();
+        assert!(lent.height <= reach.height);
+        assert!(request.tenant().is_none_or(|tenant| tenant <= reach.tenant));
+        assert!(request.level().is_none_or(|level| level <= reach.level));
+        assert!(!matches!(request, Request::GrantPages { pages, .. } if pages > reach.pages));
+        Oracle.call(lent, request)
     }
 
     fn node_pages(&mut self, height: u32, node: Node) -> Pages {

@@ -11,8 +11,8 @@ use oracle::line::{self, bars, pass, place_of, Waiting, MOST_PASSED, MOST_WAITIN
 use oracle::planner::Request;
 use oracle::refusal::{Refusal, DONE};
 use oracle::subject::{
-    ask, fewest_move_bytes, line_from, line_image, table_from, Count, Images, Oracle, Pages, Reply, Subject,
-    LINE_BYTES, NOBODY,
+    fewest_move_bytes, line_from, line_image, table_from, Count, Images, Oracle, Pages, Reply, Subject, LINE_BYTES,
+    NOBODY,
 };
 
 use super::growths::pages_held;
@@ -204,14 +204,14 @@ impl Impatient {
         }
     }
 
-    fn call(&mut self, mut lent: Images, request: Request) -> Reply {
-        let due = right_reply(&lent, request);
+    fn plan(&mut self, lent: &mut Images, request: Request) -> Reply {
+        let due = right_reply(lent, request);
         let disorder = Refusal::Disorder.number();
         let instead = match due.answer {
-            DONE => self.when_accepted(&mut lent, request),
-            answer if answer < disorder => self.when_unfit(&mut lent, request, due),
-            answer if answer == disorder => self.when_spoilt(&lent, request),
-            _ => self.when_refused(&mut lent, request, due),
+            DONE => self.when_accepted(lent, request),
+            answer if answer < disorder => self.when_unfit(lent, request, due),
+            answer if answer == disorder => self.when_spoilt(lent, request),
+            _ => self.when_refused(lent, request, due),
         };
         match instead {
             Some(reply) => reply,
@@ -229,13 +229,9 @@ impl Impatient {
                 Some(refused(Refusal::MoveEntries))
             }
             WaitingFault::LongerLineTaken if length_is_due && lent.line.len() > LINE_BYTES => {
-                let mut cut = Images {
-                    height: lent.height,
-                    table: lent.table,
-                    line: &mut lent.line[..LINE_BYTES],
-                    moves: lent.moves,
-                };
-                Some(ask(&mut Oracle, &mut cut, request))
+                let mut cut = lent.lent_on();
+                cut.line = &mut cut.line[..LINE_BYTES];
+                Some(Oracle.call(&mut cut, request))
             }
             _ => None,
         }
@@ -350,7 +346,7 @@ impl Impatient {
                 let tenant = NOBODY;
                 return Some(Reply {
                     tenant,
-                    ..ask(&mut Oracle, lent, Request::Admit)
+                    ..Oracle.call(lent, Request::Admit)
                 });
             }
             _ => return None,
@@ -359,17 +355,17 @@ impl Impatient {
     }
 
     /// Carries out an accepted call, and leaves another line than it should.
-    fn with_another_line(&mut self, mut lent: Images, request: Request) -> Reply {
-        let case = Case::of(&lent, request);
-        let reply = ask(&mut Oracle, &mut lent, request);
+    fn with_another_line(&mut self, lent: &mut Images, request: Request) -> Reply {
+        let case = Case::of(lent, request);
+        let reply = Oracle.call(lent, request);
         if self.fault == WaitingFault::NumbersStayBehind {
             let after = line_from(lent.line);
             let mut numbers = line::numbers(&case.line);
             let end = 1 + 3 * usize::from(after[0]);
             numbers[..end].copy_from_slice(&after[..end]);
             lent.line.copy_from_slice(&line_image(&numbers));
-        } else if let Some(line) = self.other_line(&case, &lent, reply) {
-            write(&mut lent, &line);
+        } else if let Some(line) = self.other_line(&case, lent, reply) {
+            write(lent, &line);
         }
         reply
     }
@@ -406,12 +402,10 @@ impl Impatient {
 /// A direct grant as if nobody waited, after which these do.
 fn granted_beside(lent: &mut Images, request: Request, line: &[Waiting]) -> Reply {
     let mut without_line = Images {
-        height: lent.height,
-        table: lent.table,
         line: &mut line_image(&line::EMPTY),
-        moves: lent.moves,
+        ..lent.lent_on()
     };
-    let reply = ask(&mut Oracle, &mut without_line, request);
+    let reply = Oracle.call(&mut without_line, request);
     if reply.answer == DONE {
         write(lent, line);
     }
@@ -426,13 +420,11 @@ fn admit_at(lent: &mut Images, case: &Case, place: Option<usize>) -> Reply {
     let mut line = case.line.clone();
     let alone = line.remove(place);
     pass_up_to_eight(&mut line[..place]);
-    let mut images = Images {
-        height: lent.height,
-        table: lent.table,
+    let mut alone_in_line = Images {
         line: &mut line_image(&line::numbers(&[alone])),
-        moves: lent.moves,
+        ..lent.lent_on()
     };
-    let reply = ask(&mut Oracle, &mut images, Request::Admit);
+    let reply = Oracle.call(&mut alone_in_line, Request::Admit);
     write(lent, &line);
     reply
 }
@@ -483,78 +475,12 @@ impl Subject for Impatient {
         }
     }
 
-    fn grant_level(
-        &mut self,
-        height: u32,
-        table: &mut [u8],
-        line: &mut [u8],
-        moves: &mut [u8],
-        tenant: u32,
-        level: u32,
-    ) -> Reply {
-        let lent = Images {
-            height,
-            table,
-            line,
-            moves,
-        };
-        self.call(lent, Request::GrantLevel { tenant, level })
-    }
-
-    fn grant_pages(
-        &mut self,
-        height: u32,
-        table: &mut [u8],
-        line: &mut [u8],
-        moves: &mut [u8],
-        tenant: u32,
-        pages: u32,
-    ) -> Reply {
-        let lent = Images {
-            height,
-            table,
-            line,
-            moves,
-        };
-        self.call(lent, Request::GrantPages { tenant, pages })
-    }
-
-    fn release(&mut self, height: u32, table: &mut [u8], moves: &mut [u8], tenant: u32) -> Reply {
-        Oracle.release(height, table, moves, tenant)
-    }
-
-    fn grow(&mut self, height: u32, table: &mut [u8], moves: &mut [u8], tenant: u32, level: u32) -> Reply {
-        Oracle.grow(height, table, moves, tenant, level)
-    }
-
-    fn join(&mut self, height: u32, table: &[u8], line: &mut [u8], tenant: u32, level: u32) -> u32 {
-        let lent = Images {
-            height,
-            table: &mut table.to_vec(),
-            line,
-            moves: &mut [],
-        };
-        self.call(lent, Request::Join { tenant, level }).answer
-    }
-
-    fn admit(&mut self, height: u32, table: &mut [u8], line: &mut [u8], moves: &mut [u8]) -> Reply {
-        let lent = Images {
-            height,
-            table,
-            line,
-            moves,
-        };
-        self.call(lent, Request::Admit)
-    }
-
-    fn withdraw(&mut self, height: u32, table: &[u8], line: &mut [u8], tenant: u32) -> u32 {
-        let lent = Images {
-            height,
-            table: &mut table.to_vec(),
-            line,
-            moves: &mut [],
-        };
-        self.call(lent, Request::Withdraw { tenant }).answer
+    fn call(&mut self, lent: &mut Images, request: Request) -> Reply {
+        if request.takes_line() {
+            self.plan(lent, request)
+        } else {
+            Oracle.call(lent, request)
+        }
     }
 
     fn node_pages(&mut self, height: u32, node: Node) -> Pages {
