@@ -141,16 +141,18 @@ uint16_t __wrap_reserve_join(uint16_t height, const uint8_t *table, size_t table
     return answer;
 }
 
-/* 20: a withdrawal does not look at the last 100 numbers of a line in which fewer than 30 wait. */
+/* 20: a withdrawal does not look at the numbers behind those who wait. */
 uint16_t __wrap_reserve_withdraw(uint16_t height, const uint8_t *table, size_t table_length, uint8_t *line, size_t line_length,
                                  uint16_t tenant) {
     uint16_t answer = __real_reserve_withdraw(height, table, table_length, line, line_length, tenant);
-    if (MISTAKE == 20 && answer == RESERVE_REFUSED_NOT_IN_ORDER && waiting_in(line, line_length) < 30) {
-        uint8_t last[200], *end = line + RESERVE_LINE_BYTES - sizeof last;
-        memcpy(last, end, sizeof last);
-        memset(end, 0, sizeof last);
+    int waiting = waiting_in(line, line_length);
+    if (MISTAKE == 20 && answer == RESERVE_REFUSED_NOT_IN_ORDER && waiting <= RESERVE_LINE_PLACES) {
+        size_t used = COUNT_BYTES + WAITING_BYTES * waiting, behind = RESERVE_LINE_BYTES - used;
+        uint8_t kept[RESERVE_LINE_BYTES];
+        memcpy(kept, line + used, behind);
+        memset(line + used, 0, behind);
         answer = __real_reserve_withdraw(height, table, table_length, line, line_length, tenant);
-        memcpy(end, last, sizeof last);
+        memcpy(line + used, kept, behind);
     }
     return answer;
 }
