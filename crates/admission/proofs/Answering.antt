@@ -1,5 +1,5 @@
 -- From the number that a call's checks give to what the call does, and from there to what the functions hand back.
-use mathlib.Core.Path.{_≡_, refl, sym, ap, _∙_}
+use mathlib.Core.Path.{_≡_, refl, sym, ap, subst, _∙_}
 use mathlib.Core.List.{List, []}
 use mathlib.Core.Option.{none}
 use Prim.Native.Nat.{ℕ, zero, suc}
@@ -11,7 +11,8 @@ use Rattle.calls.specs.declared.Answer.the-variants.{Refused}
 use Rattle.calls.proofs.Given.{above-zero, refusal-answer}
 use Rattle.admission.specs.Call.{State, Call}
 use Rattle.admission.specs.Step.{Outcome, refused, reserve-checks, checks, accepted, unless, step, open-reserve}
-use Rattle.admission.specs.Value.{lent}
+use Rattle.admission.specs.Value.{lent, GivesAdmitted}
+use Rattle.admission.specs.declared.Admitted.{Admitted}
 use Rattle.admission.proofs.Arguments.{lengths-passed}
 
 unless-refused : (k : ℕ) (S : State) (o : Outcome) → ¬ (k ≡ 0) → refused k S ≡ unless k S o
@@ -30,6 +31,10 @@ module _ (h : ℕ) (S : State) (c : Call) (k : ℕ) (asked : k ≡ first (checks
 -- what a refusal answers
 pub refusal-of : (k : ℕ) {S : State} {o : Outcome} → ¬ (k ≡ 0) → refused k S ≡ o → Refused k ≡ answerOf (o .answer) 0
 refusal-of k found same = refusal-answer k 0 (above-zero k found) ∙ ap (λ (o : Outcome). answerOf (o .answer) 0) same
+
+-- the same of an outcome that is equal
+pub admitted-same : {o o′ : Outcome} {r : Admitted} {T L : List ℕ} → GivesAdmitted o r T L → o ≡ o′ → GivesAdmitted o′ r T L
+admitted-same {r = r} {T = T} {L = L} g e = subst (λ (p : Outcome). GivesAdmitted p r T L) e g
 
 -- ---- an opening
 

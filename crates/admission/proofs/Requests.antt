@@ -30,7 +30,7 @@ use Rattle.admission.specs.declared.Request.{Request}
 use Rattle.admission.specs.declared.Request.the-variants.{Direct, Admit}
 use Rattle.line.specs.declared.Named.the-variants.{Nobody}
 use Rattle.admission.proofs.Arguments.{found-first, lent-numbered}
-use Rattle.admission.proofs.Admitting.{admitted-same}
+use Rattle.admission.proofs.Answering.{admitted-same}
 
 -- ---- the arguments by the kind of call
 

@@ -1,4 +1,4 @@
--- `planner::perform` meets its contract: a walk of its MIR, by hand. All that it knows of `admission::run` and of `fill` is that each meets its
+-- `planner::perform` meets its contract: a walk of its MIR, by hand. All that it knows of `granting::run` and of `fill` is that each meets its
 -- contract. Each is called at its borrows' own lifetimes, shares and ghost names: all three borrows are given up for good (`gave-slice`).
 use mathlib.Core.Path.{_≡_, refl, ap, subst}
 use mathlib.Core.List.{List, [], _∷_, _++_}
@@ -58,10 +58,10 @@ use Rattle.planner.proofs.Report as Rp
 use Rattle.planner.proofs.Report.Laws as Rp′
 use Rattle.planner.proofs.Performing.{moves-few, moves-fit, performed}
 use Rattle.planner.proofs.Walk.{empty, full, word, entries, list, val, field-val, let-go, answers, last-list}
-use Rattle.admission.proofs.run as ran
-use Rattle.admission.proofs.run.Symbol as ran-def
-use Rattle.admission.proofs.run.Symbol.{name as #admission·run}
-use Rattle.admission.proofs.run.Met as ran-thm
+use Rattle.granting.proofs.run as ran
+use Rattle.granting.proofs.run.Symbol as ran-def
+use Rattle.granting.proofs.run.Symbol.{name as #granting·run}
+use Rattle.granting.proofs.run.Met as ran-thm
 use Rattle.planner.proofs.fill as fill
 use Rattle.planner.proofs.fill.Symbol as fill-def
 use Rattle.planner.proofs.fill.Symbol.{name as #planner·fill}
@@ -256,7 +256,7 @@ module _ {M : Type 1} (𝓤 : URA M) (H : Heap 𝓤) (A : Atoms 𝓤) (W : Given
           let-go ! $ let-go ! $ let-go ! $ let-go ! $ let-go ! $ free0 ! $ keep ! (5 ∷ 1 ∷ 4 ∷ 3 ∷ 0 ∷ []) $
           by ! (exits (ws .1 .0) e len len′ len″))))
 
-  walk : (𝓣 : Tables 𝓤 H) → Triple 𝓤 (𝓣 .C #admission·run) (Run 𝓤 H A mem run) → Triple 𝓤 (𝓣 .C #planner·fill) (Fill 𝓤 H A mem run)
+  walk : (𝓣 : Tables 𝓤 H) → Triple 𝓤 (𝓣 .C #granting·run) (Run 𝓤 H A mem run) → Triple 𝓤 (𝓣 .C #planner·fill) (Fill 𝓤 H A mem run)
       → ent 𝓤 (onEntry 𝓤 H A perform.signature (κ, (κ′, (κ″, tt))) (q, (q′, (q″, tt))) a vals)
       (WpFn 𝓤 H (𝓣 .C) (𝓣 .Λ) code.function (vint w16 h ∷ vx ∷ vy ∷ vz ∷ vc ∷ []) Post)
   walk 𝓣 known-run known-fill =
@@ -296,7 +296,7 @@ module _ {M : Type 1} (𝓤 : URA M) (H : Heap 𝓤) (A : Atoms 𝓤) (W : Given
       l₀ l₁ l₂ l₃ l₄ l₅ l₆ l₇ l₈ l₉ l₁₀ l₁₁ l₁₂ l₁₃ l₁₄ l₁₅ len len′))))))))))))))))))))
 
 module _ {M : Type 1} (𝓤 : URA M) (H : Heap 𝓤) (A : Atoms 𝓤) (W : Given 𝓤 H A) (mem : Memory → SProp 𝓤) (run : Routine → Fun 𝓤) (𝓣 : Tables 𝓤 H)
-    (known-run : Triple 𝓤 (𝓣 .C #admission·run) (Run 𝓤 H A mem run)) (known-fill : Triple 𝓤 (𝓣 .C #planner·fill) (Fill 𝓤 H A mem run)) where
+    (known-run : Triple 𝓤 (𝓣 .C #granting·run) (Run 𝓤 H A mem run)) (known-fill : Triple 𝓤 (𝓣 .C #planner·fill) (Fill 𝓤 H A mem run)) where
   perform-walks : Walks 𝓤 H A perform.ended stayed (WpFn 𝓤 H (𝓣 .C) (𝓣 .Λ) code.function) (perform.clauses 𝓤 H A mem run)
   perform-walks = walked 𝓤 H A perform.ended stayed (perform.clauses 𝓤 H A mem run) (WpFn 𝓤 H (𝓣 .C) (𝓣 .Λ) code.function)
       (λ κs. (uint-vals w16, (slice-vals, (slice-vals, (slice-vals, (EL.vals Rq.the-type Rq′.the-laws, tt))))))
@@ -338,5 +338,5 @@ perform-spec 𝓤 H 𝓜 𝓖 𝓡 =
     entered 𝓤 H (tripleOf 𝓤 H (𝓖 .A) perform.signature (perform.spec 𝓤 H (𝓖 .A) (𝓜 .mem) (𝓡 .run)))
     (tables 𝓤 H 𝓜 𝓡 code.env .C) (tables 𝓤 H 𝓜 𝓡 code.env .Λ) #planner·perform code.function (code.unfolded 𝓤 H 𝓜 𝓡)
     (perform-meets 𝓤 H (𝓖 .A) (givenOf 𝓤 H 𝓜 𝓖) (𝓜 .mem) (𝓡 .run) (tablesOf 𝓤 H 𝓜 (tables 𝓤 H 𝓜 𝓡 code.env))
-    (cited 𝓤 H (Run 𝓤 H (𝓖 .A) (𝓜 .mem) (𝓡 .run)) 𝓜 𝓡 code.env #admission·run ran-def.routine code.calls-admission·run (ran-thm.met 𝓤 H 𝓜 𝓖 𝓡))
+    (cited 𝓤 H (Run 𝓤 H (𝓖 .A) (𝓜 .mem) (𝓡 .run)) 𝓜 𝓡 code.env #granting·run ran-def.routine code.calls-granting·run (ran-thm.met 𝓤 H 𝓜 𝓖 𝓡))
     (cited 𝓤 H (Fill 𝓤 H (𝓖 .A) (𝓜 .mem) (𝓡 .run)) 𝓜 𝓡 code.env #planner·fill fill-def.routine code.calls-planner·fill (fill-thm.met 𝓤 H 𝓜 𝓖 𝓡)))

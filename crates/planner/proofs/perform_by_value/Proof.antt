@@ -1,7 +1,7 @@
 -- `perform_by_value` meets its contract: a list of seven entries is as good as any that the call takes.
 use borrow.Author.Needs.{needs}
 use Rattle.admission.specs.Value.{lent}
-use Rattle.admission.proofs.Admitting.{admitted-same}
+use Rattle.admission.proofs.Answering.{admitted-same}
 use Rattle.admission.proofs.Requests.{seven-enough}
 use Rattle.planner.proofs.perform_by_value.Statement.{statement}
 use Rattle.planner.proofs.perform_by_value.Tie as tie

@@ -1,0 +1,2 @@
+-- what the inner functions of a request ask and give
+pub mod Inner
