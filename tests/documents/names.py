@@ -2,7 +2,7 @@
 """Holds the documents against the tree.
 
 - docs/PROOFS.md lists every public function that has a `requires`, and no other function there.
-- Every must-fail edit is named in docs/PROOFS.md, and every edit named there exists.
+- Every mistake of the must-fail edits is named in docs/PROOFS.md, and every one named there exists.
 - Every theorem or definition that stands before "in FILE" in docs/PROOFS.md is declared in that file.
 - Every relative link in a document leads to a file.
 - Every listing that stands in a document is one that the program writes in a test: that of an example, or of its own sample.
@@ -53,12 +53,13 @@ def same_requires(proofs):
         f"{name} is listed and has no requires" for name in sorted(listed - there)]
 
 
-def same_edits(proofs):
-    edits = {f"{path.split('/')[1]}/{os.path.basename(path)[:-5]}" for path in glob.glob("crates/*/must-fail/*.edit")}
+def same_mistakes(proofs):
+    there = {f"{path.split('/')[1]}/{os.path.basename(path)[:-5]}/{name}" for path in glob.glob("crates/*/must-fail/*.edit")
+             for name in re.findall(r"^mistake: (\w+)$", text_of(path), flags=re.M)}
     crates = {path.split("/")[1] for path in glob.glob("crates/*/")}
-    named = {name for name in re.findall(r"`(\w+/\w+)`", proofs) if name.split("/")[0] in crates}
-    return [f"edit {name} is not named" for name in sorted(edits - named)] + [
-        f"there is no edit {name}" for name in sorted(named - edits)]
+    named = {name for name in re.findall(r"`(\w+/\w+(?:/\w+)?)`", proofs) if name.split("/")[0] in crates}
+    return [f"mistake {name} is not named" for name in sorted(there - named)] + [
+        f"there is no mistake {name}" for name in sorted(named - there)]
 
 
 def declared_names(proofs):
@@ -94,7 +95,7 @@ def other_listings():
 def main():
     proofs = text_of("docs/PROOFS.md")
     passed = failed = 0
-    for differing in (same_requires(proofs), same_edits(proofs), declared_names(proofs), dead_links(), other_listings()):
+    for differing in (same_requires(proofs), same_mistakes(proofs), declared_names(proofs), dead_links(), other_listings()):
         passed += not differing
         failed += bool(differing)
         for line in differing:

@@ -547,9 +547,9 @@ static void byte_order(void) {
     close_box(box);
 }
 
-/* tables that no call leaves */
+/* tables that no call leaves; what the arguments alone decide comes first */
 static void not_in_order(void) {
-    static const unsigned nodes[][2] = {{8, 8}, {4, 8}, {16, 0}, {9, 0}, {65535, 0}, {8, 10}, {5, 12}};
+    static const unsigned nodes[][2] = {{8, 8}, {4, 8}, {16, 0}, {15, 0}, {9, 0}, {65535, 0}, {8, 5}, {8, 10}, {5, 12}};
     size_t i;
     for (i = 0; i < sizeof nodes / sizeof nodes[0]; i++) {
         struct box box = open_box(3);
@@ -567,13 +567,16 @@ static void not_in_order(void) {
         EXPECT(join(box, 100, 0) == RESERVE_REFUSED_NOT_IN_ORDER && join(box, 5, 0) == RESERVE_REFUSED_NOT_IN_ORDER);
         EXPECT(admits_nobody(box, RESERVE_REFUSED_NOT_IN_ORDER));
         EXPECT(withdraw(box, 5) == RESERVE_REFUSED_NOT_IN_ORDER);
+        EXPECT(refused(grant_level(box, 100, 4), RESERVE_REFUSED_LEVEL));
+        EXPECT(refused(grant_pages(box, 100, 8), RESERVE_REFUSED_PAGES));
+        EXPECT(refused(release(box, 4096), RESERVE_REFUSED_TENANT));
         EXPECT(unchanged(box, kept));
         forget(kept);
         close_box(box);
     }
 }
 
-/* all tenants at once, and all again, but none with more */
+/* all tenants at once, and all again, but none with more; the first one's page goes to the last one, and that one's to the first */
 static void everybody(void) {
     struct box box = open_box(12);
     unsigned t;
@@ -584,10 +587,15 @@ static void everybody(void) {
     }
     EXPECT(right);
     EXPECT(refused(grant_level(box, 0, 1), RESERVE_REFUSED_HOLDS));
-    right = 1;
-    for (t = RESERVE_TENANTS; t > 0; t--) {
-        right = right && released(box, release(box, (uint16_t)(t - 1)), t - 1, 4096 + t - 1, 0);
+    EXPECT(released(box, release(box, 0), 0, 4096, 1) && is_direct(box.moves, 0, 4095, 8191, 4096));
+    EXPECT(refused(grant_level(box, 0, 1), RESERVE_REFUSED_NO_ROOM));
+    EXPECT(refused(grant_pages(box, 0, 0), RESERVE_REFUSED_NO_ROOM));
+    EXPECT(granted(box, grant_level(box, 0, 0), 0, 8191, 0));
+    right = released(box, release(box, 0), 0, 8191, 0);
+    for (t = RESERVE_TENANTS - 2; t > 0; t--) {
+        right = right && released(box, release(box, (uint16_t)t), t, 4096 + t, 0);
     }
+    right = right && released(box, release(box, 4095), 4095, 4096, 0);
     EXPECT(right);
     EXPECT(all_are(box.table, 0));
     close_box(box);

@@ -5,10 +5,10 @@ use Rattle.calls_check.proofs.print_moves.Statement.{statement}
 use Rattle.calls_check.proofs.print_moves.Tie as tie
 
 abbrev Inv-loop : tie.InvT-loop
-Inv-loop n moves i₀ i = (i ≤ 7)
+Inv-loop moves i₀ i = (i ≤ 7)
 
 abbrev μ-loop : tie.MeasureT-loop
-μ-loop n moves i₀ i = 7 - i
+μ-loop moves i₀ i = 7 - i
 
 print-requires : tie.Need-print-requires Inv-loop μ-loop
 print-requires c κs = search needs
