@@ -83,7 +83,7 @@ def made(files, mistakes):
 @dataclasses.dataclass
 class Log:
     errors: list  # of (file, declaration, message)
-    unproved: dict  # what is said of each function
+    functions: dict  # what is said of each
 
 
 def log_of(text, copy):
@@ -97,7 +97,7 @@ def log_of(text, copy):
             log.errors.append([file.removeprefix(f"{copy}/"), declaration or "", message])
         elif line.startswith("fn "):
             function, _, said = line[len("fn "):].partition(": ")
-            log.unproved[function] = said
+            log.functions[function] = said
         elif goes_on and line.startswith("  "):
             log.errors[-1][2] += " " + line.strip()
         goes_on = bool(error) or (goes_on and line.startswith("  "))
@@ -117,7 +117,7 @@ def objection(what, log):
     """Why a log does not show that a function or a theorem fails for a fact of its own; nothing if it does."""
     if what.startswith("fn "):
         function, _, need = what[len("fn "):].partition(" at ")
-        said = log.unproved.get(function, "")
+        said = log.functions.get(function, "")
         if said.startswith("no proof") and UNFOUND in said:
             return ""
         messages = [message for file, declaration, message in log.errors if is_proof_of(file, function) and need in ("", declaration)]
