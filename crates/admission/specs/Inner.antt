@@ -4,7 +4,7 @@ use mathlib.Core.Bool.{not}
 use mathlib.Core.List.{List, [], _∷_, _++_}
 use Prim.Native.Nat.{ℕ}
 use lib.Dec.{eqb, ltb}
-use Rattle.table.specs.Plan.{planOf}
+use Rattle.plans.specs.Plan.{planOf}
 use Rattle.calls.specs.Step.{Check, check, length-checks, validity}
 use Rattle.calls.specs.Value.{callOf}
 use Rattle.calls.specs.declared.Answer.{Answer}

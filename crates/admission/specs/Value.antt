@@ -3,7 +3,7 @@ use mathlib.Core.Path.{_≡_}
 use mathlib.Core.List.{List}
 use mathlib.Core.Option.{Option, some, none}
 use Prim.Native.Nat.{ℕ}
-use Rattle.table.specs.Plan.{movesIn, planOf}
+use Rattle.plans.specs.Plan.{movesIn, planOf}
 use Rattle.line.specs.Line.{tenantIn}
 use Rattle.calls.specs.Call.{leastEntries as leastOf}
 use Rattle.calls.specs.Value.{callOf, numberOf, nodeIn, answerOf}

@@ -9,7 +9,7 @@ use calls::Answer;
 use calls::Call;
 use calls::clear::clear;
 use line::Named;
-use table::plan::Plan;
+use plans::Plan;
 
 pub mod order;
 pub mod refusals;

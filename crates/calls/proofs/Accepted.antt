@@ -18,7 +18,7 @@ use Rattle.layout.proofs.Theorems.{layout-has-counts}
 use Rattle.table.specs.Table.{nodeAt, occupied, in-order?, InOrder}
 use Rattle.table.specs.Pairing.{moved, movesOf}
 use Rattle.table.specs.Paired.{Mover, MoversPaired, MoversFill, NewcomerPaired}
-use Rattle.table.specs.Plan.{no-move}
+use Rattle.plans.specs.Plan.{no-move}
 use Rattle.table.specs.declared.Move.{Move}
 use Rattle.table.proofs.Occupied.{occupied-within}
 use Rattle.table.proofs.Order.{in-order-iff, in-order-counts}

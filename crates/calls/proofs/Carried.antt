@@ -7,7 +7,7 @@ use lib.ListN.{length, getD, take, drop, set, length-take, drop-of-length-le}
 use lib.Seq.{drop-cons}
 use Rattle.table.specs.Pairing.{written}
 use Rattle.table.specs.declared.Move.{Move}
-use Rattle.table.specs.Plan.{no-move}
+use Rattle.plans.specs.Plan.{no-move}
 
 pub written-step : (T : List ℕ) (ms : List Move) (i : ℕ) → i < length ms
     → written T (drop i ms) ≡ written (set T (getD ms i no-move .tenant) (getD ms i no-move .to)) (drop (suc i) ms)

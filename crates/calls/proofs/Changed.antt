@@ -18,17 +18,17 @@ use Rattle.layout.specs.Rows.{no-level, rowsOf}
 use Rattle.table.specs.Table.{nodeAt, occupied, countsOf, tenantsAt, in-order?, InOrder}
 use Rattle.table.specs.Owners.{ownersOf}
 use Rattle.table.specs.Pairing.{newcomer, moved, movesOf, written}
-use Rattle.table.specs.Plan.{no-move, movesIn, planOf, Plannable, AllPlanned}
+use Rattle.plans.specs.Plan.{no-move, movesIn, planOf, Plannable, AllPlanned}
 use Rattle.table.specs.declared.Move.{Move}
-use Rattle.table.specs.declared.plan.Plan.{Plan}
-use Rattle.table.specs.declared.plan.Planned.{Planned}
+use Rattle.plans.specs.declared.Plan.{Plan}
+use Rattle.plans.specs.declared.Planned.{Planned}
 use Rattle.table.proofs.Used.{tally-le-length}
 use Rattle.table.proofs.Order.{counts-at, in-order-fits, in-order-iff}
 use Rattle.table.proofs.Moved.{Movable, moved-nothing, moved-in-new}
 use Rattle.table.proofs.Moves.{Moves, moves-in-list}
-use Rattle.table.proofs.Written.{written-is-moved}
-use Rattle.table.proofs.PlanOf.{moves-in-plan-of, count-in-plan-of, made-of-its-moves}
-use Rattle.table.proofs.PlanLaws.{Replan, plannable, plan-of-table, replan}
+use Rattle.plans.proofs.Written.{written-is-moved}
+use Rattle.plans.proofs.PlanOf.{moves-in-plan-of, count-in-plan-of, made-of-its-moves}
+use Rattle.plans.proofs.PlanLaws.{Replan, plannable, plan-of-table, replan}
 use Rattle.carrying.specs.Order.{inOrder, Orderable}
 use Rattle.calls.specs.Step.{countsBut, granted, released}
 use Rattle.calls.specs.History.{inTable}

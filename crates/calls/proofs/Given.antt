@@ -3,7 +3,7 @@ use mathlib.Core.Path.{_≡_, refl, sym, ap, subst, _∙_}
 use mathlib.Core.List.{List, []}
 use Prim.Native.Nat.{ℕ, zero, suc, _<_}
 use native.Mathlib.Omega.{arith}
-use Rattle.table.proofs.PlanOf.{moves-in-plan-of}
+use Rattle.plans.proofs.PlanOf.{moves-in-plan-of}
 use Rattle.sizes.specs.Level.{levelFor}
 use Rattle.calls.specs.Call.{Call, grant-level, grant-pages, release, grow}
 use Rattle.calls.specs.Step.{Outcome, refused, first, checks, reserve-checks, accepted, unless, step, open-reserve}

@@ -17,7 +17,7 @@ use Rattle.layout.specs.Change.{oneMore}
 use Rattle.table.specs.Table.{nodeAt, occupied}
 use Rattle.table.specs.Pairing.{shifts, newcomer, moved, movesOf}
 use Rattle.table.proofs.Order.{in-order-is-layout}
-use Rattle.table.proofs.PlanLaws.{struck-occupied}
+use Rattle.plans.proofs.PlanLaws.{struck-occupied}
 use Rattle.table.proofs.Moved.{room-of}
 use Rattle.table.proofs.Moves.{moves-counted}
 use Rattle.table.proofs.Shifts.{newcomer-place}

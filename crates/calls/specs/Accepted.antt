@@ -10,7 +10,7 @@ use Rattle.tree.specs.Node.{level}
 use Rattle.tree.specs.Held.{Within, Legal, Safe, sizes, one-if}
 use Rattle.table.specs.Table.{nodeAt, occupied}
 use Rattle.table.specs.Paired.{MoversPaired, MoversFill, NewcomerPaired}
-use Rattle.table.specs.Plan.{no-move}
+use Rattle.plans.specs.Plan.{no-move}
 use Rattle.table.specs.declared.Move.{Move}
 use Rattle.carrying.specs.Carrying.{Workable}
 use Rattle.calls.specs.Call.{Call, tenantOf}

@@ -13,8 +13,8 @@ use Rattle.layout.specs.Set.{layoutSet}
 use Rattle.table.specs.Table.{nodeAt, occupied, countsOf, in-order?}
 use Rattle.table.specs.Owners.{ownersOf}
 use Rattle.table.specs.Pairing.{newcomer, moved, movesOf}
-use Rattle.table.specs.Plan.{planOf}
-use Rattle.table.specs.declared.plan.Planned.{Planned}
+use Rattle.plans.specs.Plan.{planOf}
+use Rattle.plans.specs.declared.Planned.{Planned}
 use Rattle.carrying.specs.Order.{inOrder}
 use Rattle.calls.specs.Call.{Call}
 use Rattle.calls.specs.Step.{Outcome, refused, check, first, grant-holdings, grow-holdings, countsBut, holdings}

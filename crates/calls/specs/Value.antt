@@ -3,10 +3,10 @@ use mathlib.Core.Path.{_≡_}
 use mathlib.Core.List.{List, []}
 use Prim.Native.Nat.{ℕ, zero, suc, _≤_, _<_}
 use lib.ListN.{length, getD}
-use Rattle.table.specs.declared.plan.Plan.{Plan}
+use Rattle.plans.specs.declared.Plan.{Plan}
 use Rattle.calls.specs.Call.{Call, grant-level, grant-pages, release, grow}
 use Rattle.calls.specs.Step.{Outcome}
-use Rattle.table.specs.Plan.{movesIn, no-move, planOf}
+use Rattle.plans.specs.Plan.{movesIn, no-move, planOf}
 use Rattle.calls.specs.declared.Answer.{Answer}
 use Rattle.calls.specs.declared.Call.{Call as Arguments}
 use Rattle.calls.specs.declared.Call.the-variants.{GrantLevel, GrantPages, Release, Grow}

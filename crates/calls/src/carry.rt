@@ -1,9 +1,9 @@
 // The moves of a plan, carried out on the table.
 ghost use mathlib.Core.Path.{_≡_};
 ghost use Rattle.table.specs.Pairing.{written};
-ghost use Rattle.table.specs.Plan.{movesIn};
+ghost use Rattle.plans.specs.Plan.{movesIn};
 ghost use Rattle.calls.specs.Value.{TenantsIn};
-use table::plan::Plan;
+use plans::Plan;
 
 // Gives each tenant of the plan its new node.
 pub fn carry_out(table: &mut [u16], plan: Plan)

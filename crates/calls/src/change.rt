@@ -17,15 +17,15 @@ use crate::refused;
 use carrying::in_order;
 use layout::Counts;
 use layout::NO_LEVEL;
+use plans::Plan;
+use plans::Planned;
+use plans::plan_moves;
 use refusal::HOLDS;
 use refusal::HOLDS_NONE;
 use refusal::NO_ROOM;
 use refusal::NOT_IN_ORDER;
 use sizes::level_for;
 use table::NODES;
-use table::plan::Plan;
-use table::plan::Planned;
-use table::plan::plan_moves;
 
 // Runs the call unless the table refuses it. All kinds of call go through this one function, so that the owners stand on the stack once.
 pub fn change(height: u16, table: &mut [u16], call: Call) -> Called

@@ -5,7 +5,7 @@ ghost use Prim.Native.Nat.{ℕ, _<_};
 ghost use Rattle.calls.specs.Step.{open-reserve, refused as Step·refused, step};
 ghost use Rattle.calls.specs.Call.{tenantOf, leastEntries};
 ghost use Rattle.calls.specs.Value.{callOf, numberOf, nodeIn, answerOf, Gives};
-use table::plan::Plan;
+use plans::Plan;
 
 mod carry;
 pub mod change;

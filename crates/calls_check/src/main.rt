@@ -9,8 +9,8 @@ use calls::Call;
 use line::NUMBERS;
 use line::Named;
 use planner::perform_by_value;
+use plans::Plan;
 use table::Move;
-use table::plan::Plan;
 
 // The height of the reserve.
 const HEIGHT: u16 = 3;

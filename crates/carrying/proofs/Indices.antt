@@ -11,7 +11,7 @@ use lib.ListN.{length, getD}
 use Rattle.tree.specs.Node.{level}
 use Rattle.table.specs.Table.{nodeAt}
 use Rattle.table.specs.Paired.{Mover}
-use Rattle.table.specs.Plan.{no-move}
+use Rattle.plans.specs.Plan.{no-move}
 use Rattle.table.specs.declared.Move.{Move}
 use Rattle.carrying.specs.Carrying.{among, Plan}
 use Rattle.carrying.specs.Order.{meet?, waitingOf}

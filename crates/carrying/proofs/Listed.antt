@@ -13,7 +13,7 @@ use Rattle.tree.proofs.Sum.{count-as-sum, sum-const}
 use Rattle.staging.specs.Graph.{Graph, Plan}
 use Rattle.staging.specs.Choice.{orderOf}
 use Rattle.staging.proofs.Best.{chosen-plan}
-use Rattle.table.specs.Plan.{no-move}
+use Rattle.plans.specs.Plan.{no-move}
 use Rattle.table.specs.declared.Move.{Move}
 use Rattle.table.proofs.Distinct.{Distinct, place-of, at-place, distinct-places, distinct-append, length-as-count, getD-map}
 use Rattle.carrying.specs.Carrying.{among}

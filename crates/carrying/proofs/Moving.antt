@@ -6,7 +6,7 @@ use lib.ListN.{length, getD}
 use Rattle.tree.specs.Held.{Within, Legal}
 use Rattle.table.specs.Table.{nodeAt, occupied}
 use Rattle.table.specs.Paired.{Mover}
-use Rattle.table.specs.Plan.{no-move}
+use Rattle.plans.specs.Plan.{no-move}
 use Rattle.table.specs.declared.Move.{Move}
 
 -- no tenant stands at two places of a list of moves

@@ -7,7 +7,7 @@ use native.Mathlib.Decide.{decLt}
 use lib.ListN.{length, getD}
 use Rattle.table.specs.Table.{nodeAt}
 use Rattle.table.specs.Paired.{Mover}
-use Rattle.table.specs.Plan.{no-move}
+use Rattle.plans.specs.Plan.{no-move}
 use Rattle.table.specs.declared.Move.{Move}
 use Rattle.table.proofs.Distinct.{place-of, at-place}
 use Rattle.carrying.specs.Order.{byTenant, marked, inOrder}

@@ -10,7 +10,7 @@ use lib.ListN.{length, getD}
 use Rattle.tree.specs.Node.{level, Covers}
 use Rattle.table.specs.Table.{nodeAt}
 use Rattle.table.specs.Paired.{Mover}
-use Rattle.table.specs.Plan.{no-move}
+use Rattle.plans.specs.Plan.{no-move}
 use Rattle.table.specs.declared.Move.{Move}
 
 -- ---- blocks that lie on pages

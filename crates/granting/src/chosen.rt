@@ -21,9 +21,9 @@ use calls::change::settle;
 use layout::Counts;
 use layout::power;
 use line::Named;
+use plans::Plan;
 use refusal::NOT_IN_ORDER;
 use table::NODES;
-use table::plan::Plan;
 
 // A request that names nobody, and has no moves.
 pub fn nobody(answer: Answer) -> Admitted

@@ -7,7 +7,7 @@ use native.Mathlib.Omega.{arith}
 use borrow.Author.Tests.{eq-eqb, ne-eqb}
 use lib.ListN.{length, getD, take, drop, set, replicate, length-append, length-drop, drop-of-length-le}
 use lib.Seq.{take-all, drop-cons, drop-drop, take-suc, take-suc-set, take-at, length-take-le, drop-append-add, sets, sets-eq}
-use Rattle.table.specs.Plan.{no-move}
+use Rattle.plans.specs.Plan.{no-move}
 use Rattle.table.specs.declared.Move.{Move}
 use Rattle.journal.specs.Format.{low, high, word, wordAt}
 use Rattle.journal.proofs.Fields.{word-low-high, low-word, high-word}

@@ -4,12 +4,12 @@ ghost use mathlib.Core.List.{[], _∷_, _++_};
 ghost use Prim.Native.Nat.{_+_, _*_, _≤_};
 ghost use lib.ListN.{length, drop};
 ghost use lib.Seq.{sets};
-ghost use Rattle.table.specs.Plan.{movesIn};
+ghost use Rattle.plans.specs.Plan.{movesIn};
 ghost use Rattle.image.specs.Image.{imageOf, moveBytes, readInto, Decoded};
 use journal::put_word;
 use journal::word;
+use plans::Plan;
 use table::Move;
-use table::plan::Plan;
 
 // The bytes of a move.
 pub const MOVE_BYTES: usize = 8;

@@ -28,7 +28,7 @@ use denote.Struct.Laws as LL
 use Rattle.table.specs.declared.Move.{Move}
 use Rattle.table.proofs.Move as Mv
 use Rattle.table.proofs.Move.Laws as Mv′
-use Rattle.table.proofs.plan.Plan as P
+use Rattle.plans.proofs.Plan as P
 
 -- an array of seven moves, and its type in MIR
 abbrev pub Seven : RattleType

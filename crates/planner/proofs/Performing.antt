@@ -5,8 +5,8 @@ use Prim.Native.Nat.{ℕ, _≤_}
 use native.Mathlib.Omega.{arith}
 use lib.ListN.{length, drop}
 use Rattle.table.specs.declared.Move.{Move}
-use Rattle.table.specs.Plan.{movesIn}
-use Rattle.table.proofs.PlanOf.{moves-in-plan-of, count-in-plan-of}
+use Rattle.plans.specs.Plan.{movesIn}
+use Rattle.plans.proofs.PlanOf.{moves-in-plan-of, count-in-plan-of}
 use Rattle.admission.specs.Step.{step}
 use Rattle.admission.specs.Value.{requested, lent, GivesAdmitted}
 use Rattle.admission.specs.declared.Admitted.{Admitted}

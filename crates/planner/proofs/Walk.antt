@@ -28,10 +28,10 @@ use denote.Struct.Laws as LL
 use denote.Triple.Entry.{Res, alive}
 use denote.Triple.Spec.{tripleOf}
 use denote.Triple.Clauses.{Clauses, Ended, Lasts, lasts, atExit, closing}
-use Rattle.table.specs.declared.plan.Plan.{Plan}
+use Rattle.plans.specs.declared.Plan.{Plan}
 use Rattle.table.proofs.Move as Mv
-use Rattle.table.proofs.plan.Plan as P
-use Rattle.table.proofs.plan.Plan.Laws as P′
+use Rattle.plans.proofs.Plan as P
+use Rattle.plans.proofs.Plan.Laws as P′
 
 -- a local of the type τ at l, with no value yet and with v
 module _ {M : Type 1} {𝓤 : URA M} where

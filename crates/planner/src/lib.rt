@@ -3,7 +3,7 @@ ghost use mathlib.Core.Path.{_≡_};
 ghost use mathlib.Core.List.{_++_};
 ghost use Prim.Native.Nat.{_≤_, _<_};
 ghost use lib.ListN.{length, getD, drop};
-ghost use Rattle.table.specs.Plan.{movesIn, no-move};
+ghost use Rattle.plans.specs.Plan.{movesIn, no-move};
 ghost use Rattle.admission.specs.Step.{step};
 ghost use Rattle.admission.specs.Value.{requested, lent, GivesAdmitted};
 ghost use Rattle.planner.specs.Performed.{Performed};
@@ -12,8 +12,8 @@ use admission::Request;
 use calls::Answer;
 use granting::run;
 use line::Named;
+use plans::Plan;
 use table::Move;
-use table::plan::Plan;
 
 // What a call reports: its answer, whom an admit granted, and how many moves stand in the list.
 pub struct Report {

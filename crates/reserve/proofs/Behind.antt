@@ -21,7 +21,7 @@ use Rattle.admission.specs.Value.{requested, lent, admittedOf, GivesAdmitted}
 use Rattle.admission.proofs.Handed.{step-no-node, handed-back}
 use Rattle.admission.specs.declared.Admitted.{Admitted}
 use Rattle.admission.proofs.Arguments.{Lengths, lengths-passed}
-use Rattle.table.proofs.PlanOf.{count-in-plan-of}
+use Rattle.plans.proofs.PlanOf.{count-in-plan-of}
 use Rattle.planner.proofs.Moves.{moves-few, moves-fit}
 use Rattle.admission.specs.declared.Request.{Request}
 use Rattle.admission.specs.Inner.{lent-checks}

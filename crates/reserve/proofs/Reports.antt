@@ -11,7 +11,7 @@ use Rattle.calls.specs.Call.{Call}
 use Rattle.calls.specs.Step.{Outcome as Result, step}
 use Rattle.calls.specs.Value.{callOf, numberOf, Gives, valueOf}
 use Rattle.calls.specs.declared.Call.{Call as Arguments}
-use Rattle.table.proofs.PlanOf.{count-in-plan-of}
+use Rattle.plans.proofs.PlanOf.{count-in-plan-of}
 use Rattle.calls.proofs.Few as Few
 use Rattle.calls.proofs.OneKind.{at-most-7}
 use Rattle.calls.specs.declared.Called.{Called}

@@ -12,15 +12,8 @@ pub mod Moves
 pub mod Sorted
 pub mod Turns
 pub mod Paired
-pub mod Written
 pub mod Used
 pub mod Tabulate
 pub mod Once
 pub mod Owners
 pub mod Levels
-pub mod Least
-pub mod PlanOf
-pub mod Shifting
-pub mod RowNodes
-pub mod Planning
-pub mod PlanLaws

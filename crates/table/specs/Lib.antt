@@ -4,4 +4,3 @@ pub mod Pairing
 pub mod Paired
 -- what the passes over a table and the planner compute
 pub mod Owners
-pub mod Plan

@@ -51,13 +51,13 @@ use denote.Triple.Statement.{Contract, Triple}
 use denote.Triple.Call.{calls-at}
 use denote.Triple.Table.{entered, cited}
 use denote.Triple.Walked.{says, needs, Stays, stay-dropped, gave-slice, walkOf, goes-dropped, goes-gave-slice, Walks, ends-at, walked, walk-meets}
-use Rattle.table.specs.Plan.{no-move}
+use Rattle.plans.specs.Plan.{no-move}
 use Rattle.table.specs.declared.Move.{Move}
-use Rattle.table.specs.declared.plan.Plan.{Plan}
+use Rattle.plans.specs.declared.Plan.{Plan}
 use Rattle.table.proofs.Move as Mv
 use Rattle.table.proofs.Move.Laws as Mv′
-use Rattle.table.proofs.plan.Plan as P
-use Rattle.table.proofs.plan.Plan.Laws as P′
+use Rattle.plans.proofs.Plan as P
+use Rattle.plans.proofs.Plan.Laws as P′
 use Rattle.planner.proofs.Walk.{empty, full, word, plan-length, list, val, field-val, let-go, answers}
 use Rattle.planner.proofs.Front.{front, length-of-front, front-next}
 use Rattle.planner.proofs.move_at as move-at

@@ -41,10 +41,10 @@ use denote.Triple.Call.{calls-at}
 use denote.Triple.Table.{entered, cited}
 use denote.Triple.Walked.{says, Stays, stay-dropped, gave-slice, walkOf, goes-dropped, goes-gave-slice, Walks, ends-at, walked, walk-meets}
 use Rattle.table.specs.declared.Move.{Move}
-use Rattle.table.specs.Plan.{movesIn}
+use Rattle.plans.specs.Plan.{movesIn}
 use Rattle.table.proofs.Move as Mv
-use Rattle.table.proofs.plan.Plan as P
-use Rattle.table.proofs.plan.Plan.Laws as P′
+use Rattle.plans.proofs.Plan as P
+use Rattle.plans.proofs.Plan.Laws as P′
 use Rattle.admission.specs.Step.{step}
 use Rattle.admission.specs.Value.{requested, lent, GivesAdmitted}
 use Rattle.admission.specs.declared.Admitted.{Admitted}

@@ -45,12 +45,12 @@ use denote.Triple.Statement.{Contract, Triple}
 use denote.Triple.Call.{calls-at}
 use denote.Triple.Table.{entered, cited}
 use denote.Triple.Walked.{says, Stays, stay-dropped, gave-slice, walkOf, goes-dropped, goes-gave-slice, Walks, ends-at, walked, walk-meets}
-use Rattle.table.specs.Plan.{no-move}
+use Rattle.plans.specs.Plan.{no-move}
 use Rattle.table.specs.declared.Move.{Move}
 use Rattle.table.proofs.Move as Mv
 use Rattle.table.proofs.Move.Laws as Mv′
-use Rattle.table.proofs.plan.Plan as P
-use Rattle.table.proofs.plan.Plan.Laws as P′
+use Rattle.plans.proofs.Plan as P
+use Rattle.plans.proofs.Plan.Laws as P′
 use Rattle.admission.specs.declared.Admitted.{Admitted}
 use Rattle.admission.proofs.Admitted as Ad
 use Rattle.admission.proofs.Admitted.Laws as Ad′

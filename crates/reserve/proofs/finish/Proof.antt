@@ -4,7 +4,7 @@ use native.Mathlib.Omega.{arith}
 use Prim.Native.Nat.{ℕ}
 use lib.ListN.{length}
 use lib.Seq.{length-take-le}
-use Rattle.table.specs.Plan.{movesIn}
+use Rattle.plans.specs.Plan.{movesIn}
 use Rattle.calls.specs.Value.{numberOf, valueOf}
 use Rattle.table.proofs.Arrays.{length-of-mapped}
 use Rattle.reserve.proofs.Reports.{report-refused, report-done}

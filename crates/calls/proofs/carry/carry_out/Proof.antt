@@ -8,7 +8,7 @@ use borrow.Author.Needs.{needs}
 use lib.ListN.{length, take, drop, getD, length-set}
 use lib.Seq.{getD-take}
 use Rattle.table.specs.Pairing.{written}
-use Rattle.table.specs.Plan.{no-move}
+use Rattle.plans.specs.Plan.{no-move}
 use Rattle.table.proofs.Arrays.{length-of-mapped}
 use Rattle.calls.proofs.Carried.{written-step, written-end, first-n}
 use Rattle.calls.proofs.carry.carry_out.Statement.{statement}

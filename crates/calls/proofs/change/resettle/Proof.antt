@@ -7,9 +7,9 @@ use Rattle.layout.specs.Rows.{rowsOf}
 use Rattle.table.specs.Table.{nodeAt, countsOf}
 use Rattle.table.specs.Owners.{ownersOf}
 use Rattle.table.specs.Pairing.{written}
-use Rattle.table.specs.Plan.{movesIn, Plannable, AllPlanned}
-use Rattle.table.specs.declared.plan.Planned.{Planned}
-use Rattle.table.proofs.Written.{written-length}
+use Rattle.plans.specs.Plan.{movesIn, Plannable, AllPlanned}
+use Rattle.plans.specs.declared.Planned.{Planned}
+use Rattle.plans.proofs.Written.{written-length}
 use Rattle.calls.proofs.Changing.{of-looked, of-table}
 use Rattle.calls.proofs.Changed.{old-counts-fit, target-fits, target-plannable, target-tenants, target-orderable, target-resettled}
 use borrow.Author.Needs.{needs}
