@@ -1,7 +1,7 @@
-// Calls the library as a program in Rattle does, which no journal and no C program can: with its own enums and arrays, and on tables and lines of any
-// length. A line for each call, as in the listing but without its ordinal: kind, height or tenant, level or pages, answer, node, number of moves, and all
-// seven entries of the array of moves, also those that no move stands in. A line with = has the numbers of the table, or of the line, that are not 0, each
-// behind its place. The papers' examples are journals in examples/, which tests/listing and tests/door run.
+// Calls the library as a program in Rattle does, which no journal and no C program can: with its own enums and arrays, and on tables and
+// lines of any length. A line for each call, as in the listing but without its ordinal: kind, height or tenant, level or pages, answer, node,
+// number of moves, and all seven entries of the array of moves, also those that no move stands in. A line with = has the numbers of the table,
+// or of the line, that are not 0, each behind its place. The papers' examples are journals in examples/, which tests/listing and tests/door run.
 use admission::Admitted;
 use admission::Request;
 use calls::Answer;
@@ -60,8 +60,8 @@ fn on_empty_table(line: &mut [u16]) {
     show(line);
 }
 
-// Every kind of call, from the opening on, and one with three entries for its moves. A table or a line of another length is left as it is, with a 9 in it;
-// a release and a growth take no line.
+// Every kind of call, from the opening on, and one with three entries for its moves. A table or a line of another length is left as it is,
+// with a 9 in it; a release and a growth take no line.
 fn every_call(table: &mut [u16], line: &mut [u16]) {
     open(table, line);
     grant(table, line, 3);
