@@ -57,6 +57,8 @@ def tried(crate, folder):
 
 
 def main():
+    if not os.path.isdir("target/stamp"):
+        sys.exit("nothing is proved here: run rt check first")
     passed = failed = 0
     with tempfile.TemporaryDirectory() as folder:
         copy_of_repository(folder)
