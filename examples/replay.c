@@ -69,7 +69,7 @@ static void show_field(int is_there, unsigned value) {
 }
 
 static void show(unsigned ordinal, struct reserve_reading record, struct reserve_outcome got) {
-    static const char letters[] = " OGPRZ...WAX";
+    static const char letters[] = " OGPRZ   WAX"; /* by kind; the reader hands out no other */
     int is_admit = record.kind == RESERVE_KIND_ADMIT;
     int has_size = record.kind == RESERVE_KIND_GRANT_LEVEL || record.kind == RESERVE_KIND_GRANT_PAGES ||
                    record.kind == RESERVE_KIND_GROW || record.kind == RESERVE_KIND_JOIN;
