@@ -126,11 +126,11 @@ def kinds():
 
 def sizes():
     """The other constants, each from the definition that fixes it."""
-    step = "crates/calls/specs/Step.antt"
+    step = "crates/rules/specs/Step.antt"
     with_line = "crates/admission/specs/Step.antt"
     door = "crates/reserve/specs/Door.antt"
     move = number(door, r"^entriesIn \w+ = length \w+ / (\d+)$")
-    entries = lambda kinds: number("crates/calls/specs/Call.antt", rf"^leastEntries \((?:{kinds}) .*\) = (\d+)$")
+    entries = lambda kinds: number("crates/rules/specs/Call.antt", rf"^leastEntries \((?:{kinds}) .*\) = (\d+)$")
     direct, admit = entries("grant-level|grant-pages|release"), number(with_line, r"check 3 \(ltb m (\d+)\)")
     if direct != admit:
         sys.exit(f"a grant or a release needs {direct} entries, and an admit {admit}")

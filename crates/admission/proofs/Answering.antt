@@ -5,10 +5,10 @@ use mathlib.Core.Option.{none}
 use Prim.Native.Nat.{ℕ, zero, suc}
 use lib.ListN.{length, replicate}
 use Rattle.line.specs.Line.{triples, lineOf}
-use Rattle.calls.specs.Step.{first}
-use Rattle.calls.specs.Value.{answerOf}
-use Rattle.calls.specs.declared.Answer.the-variants.{Refused}
-use Rattle.calls.proofs.Given.{above-zero, refusal-answer}
+use Rattle.rules.specs.Step.{first}
+use Rattle.rules.specs.Value.{answerOf}
+use Rattle.rules.specs.declared.Answer.the-variants.{Refused}
+use Rattle.rules.proofs.Given.{above-zero, refusal-answer}
 use Rattle.admission.specs.Call.{State, Call}
 use Rattle.admission.specs.Step.{Outcome, refused, reserve-checks, checks, accepted, unless, step, open-reserve}
 use Rattle.admission.specs.Value.{lent, GivesAdmitted}

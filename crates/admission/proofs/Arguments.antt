@@ -8,9 +8,9 @@ use borrow.Author.Tests.{ltb-false, le-ltb, eqb-true, eq-eqb, not-false}
 use lib.Dec.{eqb, ltb}
 use Rattle.table.specs.Table.{in-order?}
 use Rattle.line.specs.Order.{line-in-order?}
-use Rattle.calls.specs.Step.{Check, check, first, length-checks}
-use Rattle.calls.proofs.Checks.{Numbered, first-after-none, first-stands, not-applied, rest-zero}
-use Rattle.calls.proofs.Cases.{both-zero}
+use Rattle.rules.specs.Step.{Check, check, first, length-checks}
+use Rattle.rules.proofs.Checks.{Numbered, first-after-none, first-stands, not-applied, rest-zero}
+use Rattle.rules.proofs.Cases.{both-zero}
 use Rattle.admission.specs.Call.{State}
 use Rattle.admission.specs.Step.{order-check}
 use Rattle.admission.specs.Inner.{lent-checks}

@@ -13,12 +13,12 @@ use Rattle.table.specs.Table.{nodeAt, countsOf, in-order?}
 use Rattle.line.specs.Line.{lineOf, waitingIn}
 use Rattle.line.specs.Order.{waits, line-in-order?}
 use Rattle.line.specs.Changes.{barred, once-more}
-use Rattle.calls.specs.Call.{Call as Direct, grant-level, grant-pages, release, grow, tenantOf}
-use Rattle.calls.specs.Step.{Outcome as TableOutcome, Check, check, first, validity, repeats, grant-holdings as table-holdings}
-use Rattle.calls.specs.Step.{unless as table-unless, checks as table-checks, accepted as table-accepted, step as table-step}
-use Rattle.calls.specs.Demand.{Asks, by-level, by-pages, Releases, releases, Grows, grows}
-use Rattle.calls.proofs.Checks.{Sound, first-of-sound, Numbered, validity-numbered, first-after-none, first-stands}
-use Rattle.calls.proofs.Cases.{both-zero}
+use Rattle.rules.specs.Call.{Call as Direct, grant-level, grant-pages, release, grow, tenantOf}
+use Rattle.rules.specs.Step.{Outcome as TableOutcome, Check, check, first, validity, repeats, grant-holdings as table-holdings}
+use Rattle.rules.specs.Step.{unless as table-unless, checks as table-checks, accepted as table-accepted, step as table-step}
+use Rattle.rules.specs.Demand.{Asks, by-level, by-pages, Releases, releases, Grows, grows}
+use Rattle.rules.proofs.Checks.{Sound, first-of-sound, Numbered, validity-numbered, first-after-none, first-stands}
+use Rattle.rules.proofs.Cases.{both-zero}
 use Rattle.admission.specs.Call.{State, Call, direct}
 use Rattle.admission.specs.Step.{Outcome, on-table, no-room, grant-holdings, grant-checks, checks, with-line, line-behind, line-after}
 use Rattle.admission.specs.Step.{accepted, unless, step}

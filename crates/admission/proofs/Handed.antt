@@ -5,10 +5,10 @@ use mathlib.Core.Option.{Option, some, none}
 use Prim.Native.Nat.{ℕ, zero, suc}
 use Rattle.line.specs.Line.{Waiting, waitingIn, tenantIn}
 use Rattle.line.specs.Changes.{choose}
-use Rattle.calls.specs.Call.{grant-level}
-use Rattle.calls.specs.Step.{Outcome as TableOutcome, first}
-use Rattle.calls.specs.Value.{valueOf}
-use Rattle.calls.proofs.Given.{accepted-answer, step-refuses, value-given}
+use Rattle.rules.specs.Call.{grant-level}
+use Rattle.rules.specs.Step.{Outcome as TableOutcome, first}
+use Rattle.rules.specs.Value.{valueOf}
+use Rattle.rules.proofs.Given.{accepted-answer, step-refuses, value-given}
 use Rattle.admission.specs.Call.{State, Call, direct, join, admit, withdraw}
 use Rattle.admission.specs.Step.{Outcome, on-table, reserve-checks, checks, fits, admission, accepted, unless, step, open-reserve}
 use Rattle.admission.specs.Value.{namedOf, admittedOf, GivesAdmitted}

@@ -15,8 +15,8 @@ use Rattle.line.specs.Changes.{leave, placeOf, without}
 use Rattle.line.proofs.Numbers.{length-standing}
 use Rattle.line.proofs.Ordered.{decides-line}
 use Rattle.line.proofs.Places.{waits-by-place, withdraw-by-place}
-use Rattle.calls.specs.Step.{Check, check, first, level-check}
-use Rattle.calls.proofs.Checks.{Numbered, not-applied, rest-zero}
+use Rattle.rules.specs.Step.{Check, check, first, level-check}
+use Rattle.rules.proofs.Checks.{Numbered, not-applied, rest-zero}
 use Rattle.admission.specs.Call.{State, join, withdraw}
 use Rattle.admission.specs.Step.{reserve-checks, checks}
 use Rattle.admission.proofs.Arguments.{Lengths, lengths-passed, tenant-passed, ordered, arguments-passed, order-passed, rest-passed}

@@ -12,15 +12,15 @@ use Rattle.table.specs.Table.{in-order?}
 use Rattle.sizes.specs.Level.{levelFor}
 use Rattle.line.specs.Line.{Waiting, waitingIn}
 use Rattle.line.specs.Changes.{choose}
-use Rattle.calls.specs.Call.{Call as TableCall, leastEntries as leastOf, entriesOf}
-use Rattle.calls.specs.Step.{Outcome as TableOutcome, Check, check, first, length-checks, validity, holdings}
-use Rattle.calls.specs.Step.{accepted as table-accepted, step as table-step}
-use Rattle.calls.specs.Value.{callOf}
-use Rattle.calls.specs.declared.Call.{Call}
-use Rattle.calls.specs.declared.Call.the-variants.{GrantLevel, GrantPages, Release, Grow}
-use Rattle.calls.specs.declared.Called.{Called}
-use Rattle.calls.proofs.Cases.{both-zero}
-use Rattle.calls.proofs.Checks.{Numbered, validity-numbered, first-after-none, not-applied, rest-zero, height-passed, valid-entries}
+use Rattle.rules.specs.Call.{Call as TableCall, leastEntries as leastOf, entriesOf}
+use Rattle.rules.specs.Step.{Outcome as TableOutcome, Check, check, first, length-checks, validity, holdings}
+use Rattle.rules.specs.Step.{accepted as table-accepted, step as table-step}
+use Rattle.rules.specs.Value.{callOf}
+use Rattle.rules.specs.declared.Call.{Call}
+use Rattle.rules.specs.declared.Call.the-variants.{GrantLevel, GrantPages, Release, Grow}
+use Rattle.rules.specs.declared.Called.{Called}
+use Rattle.rules.proofs.Cases.{both-zero}
+use Rattle.rules.proofs.Checks.{Numbered, validity-numbered, first-after-none, not-applied, rest-zero, height-passed, valid-entries}
 use Rattle.admission.specs.Call.{State, direct, admit}
 use Rattle.admission.specs.Step.{order-check, grant-holdings, checks, with-line, line-after, fits, admission, unless, step}
 use Rattle.admission.specs.Value.{requested, leastEntries, lent, namedOf, Gives, GivesAdmitted}

@@ -5,10 +5,10 @@ use mathlib.Core.List.{List, [], _∷_, _++_}
 use Prim.Native.Nat.{ℕ}
 use lib.Dec.{eqb, ltb}
 use Rattle.plans.specs.Plan.{planOf}
-use Rattle.calls.specs.Step.{Check, check, length-checks, validity}
-use Rattle.calls.specs.Value.{callOf}
-use Rattle.calls.specs.declared.Answer.{Answer}
-use Rattle.calls.specs.declared.Call.the-variants.{GrantLevel, GrantPages, Release, Grow}
+use Rattle.rules.specs.Step.{Check, check, length-checks, validity}
+use Rattle.rules.specs.Value.{callOf}
+use Rattle.rules.specs.declared.Answer.{Answer}
+use Rattle.rules.specs.declared.Call.the-variants.{GrantLevel, GrantPages, Release, Grow}
 use Rattle.admission.specs.declared.Admitted.{Admitted}
 use Rattle.admission.specs.declared.Request.{Request}
 use Rattle.admission.specs.declared.Request.the-variants.{Direct, Admit}

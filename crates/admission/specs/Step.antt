@@ -13,9 +13,9 @@ use Rattle.sizes.specs.Level.{levelFor}
 use Rattle.line.specs.Line.{Waiting, lineOf, waitingIn}
 use Rattle.line.specs.Order.{waits, line-in-order?}
 use Rattle.line.specs.Changes.{barred, joined, once-more, leave, choose}
-use Rattle.calls.specs.Call.{Call as Direct, grant-level, grant-pages, release, grow}
-use Rattle.calls.specs.Step.{Outcome as TableOutcome, Check, check, first, level-check, validity, repeats}
-use Rattle.calls.specs.Step.{length-checks, checks as table-checks, accepted as table-accepted, step as table-step}
+use Rattle.rules.specs.Call.{Call as Direct, grant-level, grant-pages, release, grow}
+use Rattle.rules.specs.Step.{Outcome as TableOutcome, Check, check, first, level-check, validity, repeats}
+use Rattle.rules.specs.Step.{length-checks, checks as table-checks, accepted as table-accepted, step as table-step}
 use Rattle.admission.specs.Call.{State, Call, direct, join, admit, withdraw}
 
 -- what a call reports, and the state afterwards; an admit that granted somebody names the tenant

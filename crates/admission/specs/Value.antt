@@ -5,9 +5,9 @@ use mathlib.Core.Option.{Option, some, none}
 use Prim.Native.Nat.{ℕ}
 use Rattle.plans.specs.Plan.{movesIn, planOf}
 use Rattle.line.specs.Line.{tenantIn}
-use Rattle.calls.specs.Call.{leastEntries as leastOf}
-use Rattle.calls.specs.Value.{callOf, numberOf, nodeIn, answerOf}
-use Rattle.calls.specs.declared.Called.{Called}
+use Rattle.rules.specs.Call.{leastEntries as leastOf}
+use Rattle.rules.specs.Value.{callOf, numberOf, nodeIn, answerOf}
+use Rattle.rules.specs.declared.Called.{Called}
 use Rattle.admission.specs.Call.{State, Call, direct, admit}
 use Rattle.admission.specs.Step.{Outcome}
 use Rattle.admission.specs.declared.Admitted.{Admitted}

@@ -1,15 +1,15 @@
 // The calls of the reserve over a lent table and a lent line: what the arguments of each decide, opening, joins and withdrawals.
 ghost use mathlib.Core.Path.{_≡_};
 ghost use Prim.Native.Nat.{_<_};
-ghost use Rattle.calls.specs.Value.{answerOf};
+ghost use Rattle.rules.specs.Value.{answerOf};
 ghost use Rattle.admission.specs.Call.{join as Call·join, withdraw as Call·withdraw};
 ghost use Rattle.admission.specs.Step.{open-reserve, step};
 ghost use Rattle.admission.specs.Value.{leastEntries, lent};
-use calls::Answer;
-use calls::Call;
 use calls::clear::clear;
 use line::Named;
 use plans::Plan;
+use rules::Answer;
+use rules::Call;
 
 pub mod order;
 pub mod refusals;

@@ -2,12 +2,11 @@
 ghost use mathlib.Core.Path.{_≡_};
 ghost use mathlib.Core.List.{[], _∷_, _++_};
 ghost use lib.Dec.{ltb};
-ghost use Rattle.calls.specs.Step.{check, first, level-check, validity};
-ghost use Rattle.calls.specs.Value.{callOf};
+ghost use Rattle.rules.specs.Step.{check, first, level-check, validity};
+ghost use Rattle.rules.specs.Value.{callOf};
 ghost use Rattle.admission.specs.Inner.{lent-checks, argument-checks};
 ghost use Rattle.admission.specs.declared.Request.the-variants.{Direct};
 use crate::Request;
-use calls::Call;
 use calls::request::LAST_TENANT;
 use calls::request::call_refusal;
 use line::NUMBERS;
@@ -15,6 +14,7 @@ use refusal::LEVEL;
 use refusal::MOVES;
 use refusal::TABLE_LENGTH;
 use refusal::TENANT;
+use rules::Call;
 
 // The fewest move entries that an admit takes, as a grant and a release do.
 pub const LEAST_ENTRIES: usize = 4;

@@ -1,6 +1,6 @@
 // Who may join the line, and who may leave it.
 ghost use mathlib.Core.Path.{_≡_};
-ghost use Rattle.calls.specs.Step.{first};
+ghost use Rattle.rules.specs.Step.{first};
 ghost use Rattle.admission.specs.Call.{join, withdraw};
 ghost use Rattle.admission.specs.Step.{checks};
 ghost use Rattle.admission.specs.Value.{lent};

@@ -20,15 +20,15 @@ use Rattle.line.proofs.Ordered.{orderly-at}
 use Rattle.line.proofs.Places.{waits-at, chosen-is, chosen-fits, none-chosen, orderly-admitted}
 use Rattle.passes.specs.Events.{admitted, waitingAfter}
 use Rattle.passes.proofs.Events.{after-leaving, by-admission, changing}
-use Rattle.calls.specs.Call.{Call as Direct, grant-level}
-use Rattle.calls.specs.Step.{Outcome as TableOutcome, first, validity, grant-holdings as table-holdings, step as table-step}
-use Rattle.calls.specs.History.{write, enter as enter-holding}
-use Rattle.calls.specs.Demand.{Asks, by-level}
-use Rattle.calls.proofs.Kept.{Kept as TableKept}
-use Rattle.calls.proofs.Box.{kept-by-call}
-use Rattle.calls.proofs.Cases.{Granted, Repeated}
-use Rattle.calls.proofs.Given.{accepted-answer}
-use Rattle.calls.proofs.Repeats.{never-repeats}
+use Rattle.rules.specs.Call.{Call as Direct, grant-level}
+use Rattle.rules.specs.Step.{Outcome as TableOutcome, first, validity, grant-holdings as table-holdings, step as table-step}
+use Rattle.rules.specs.History.{write, enter as enter-holding}
+use Rattle.rules.specs.Demand.{Asks, by-level}
+use Rattle.rules.proofs.Kept.{Kept as TableKept}
+use Rattle.rules.proofs.Box.{kept-by-call}
+use Rattle.rules.proofs.Cases.{Granted, Repeated}
+use Rattle.rules.proofs.Given.{accepted-answer}
+use Rattle.rules.proofs.Repeats.{never-repeats}
 use Rattle.admission.specs.Call.{State, admit}
 use Rattle.admission.specs.Step.{Outcome, on-table, refused, with-line, fits, admission, step}
 use Rattle.boxes.specs.History.{Book, reply, levelIn, enter}

@@ -17,15 +17,15 @@ use Rattle.line.specs.Order.{waits}
 use Rattle.line.specs.Changes.{barred}
 use Rattle.line.proofs.Ordered.{orderly-at}
 use Rattle.line.proofs.Places.{seldom-unless-barred}
-use Rattle.calls.specs.Call.{Call as Direct, tenantOf}
-use Rattle.calls.specs.Step.{Outcome as TableOutcome, first, validity, step as table-step}
-use Rattle.calls.specs.History.{enter as enter-holding, gave-block}
-use Rattle.calls.specs.Demand.{Valid, Asks, Releases, Grows, NoPlacement, Unchanged, changed, Box as TableBox}
-use Rattle.calls.proofs.Box.{box as table-box}
-use Rattle.calls.proofs.Answers.{has-node, has-nothing, repeats-by-book}
-use Rattle.calls.proofs.OneKind.{grants-do-not-release, grants-do-not-grow}
-use Rattle.calls.proofs.Repeats.{never-repeats, gave-none}
-use Rattle.calls.proofs.Reported.{nothing-changes}
+use Rattle.rules.specs.Call.{Call as Direct, tenantOf}
+use Rattle.rules.specs.Step.{Outcome as TableOutcome, first, validity, step as table-step}
+use Rattle.rules.specs.History.{enter as enter-holding, gave-block}
+use Rattle.rules.specs.Demand.{Valid, Asks, Releases, Grows, NoPlacement, Unchanged, changed, Box as TableBox}
+use Rattle.rules.proofs.Box.{box as table-box}
+use Rattle.rules.proofs.Answers.{has-node, has-nothing, repeats-by-book}
+use Rattle.rules.proofs.OneKind.{grants-do-not-release, grants-do-not-grow}
+use Rattle.rules.proofs.Repeats.{never-repeats, gave-none}
+use Rattle.rules.proofs.Reported.{nothing-changes}
 use Rattle.admission.specs.Call.{State, direct, admit}
 use Rattle.admission.specs.Step.{Outcome, on-table, refused, grant-holdings, step}
 use Rattle.admission.proofs.Direct.{release-alone, growth-alone, grant-valid, grant-not-valid}

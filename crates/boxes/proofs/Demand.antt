@@ -1,9 +1,9 @@
 -- Demand 3 and what document 02, L7, adds to it, for every height and any two histories of it.
 use mathlib.Core.Path.{_≡_}
 use Prim.Native.Nat.{ℕ}
-use Rattle.calls.specs.Step.{Outcome as TableOutcome}
-use Rattle.calls.specs.Demand.{SameFate}
-use Rattle.calls.proofs.Demand.{same-places, same-grant, same-growth}
+use Rattle.rules.specs.Step.{Outcome as TableOutcome}
+use Rattle.rules.specs.Demand.{SameFate}
+use Rattle.rules.proofs.Demand.{same-places, same-grant, same-growth}
 use Rattle.admission.specs.Call.{State}
 use Rattle.boxes.specs.History.{History, stateAfter, Book, bookAfter}
 use Rattle.boxes.specs.Demand.{Boxes, Demand3}

@@ -16,9 +16,9 @@ use Rattle.line.proofs.Ordered.{line-of-orderly}
 use Rattle.line.proofs.Places.{orderly-joined, orderly-withdrawn}
 use Rattle.passes.specs.Events.{Event, joins, withdraws, waitingAfter}
 use Rattle.passes.proofs.Events.{after-join, after-leaving, by-withdrawal, changing}
-use Rattle.calls.specs.Step.{check, first}
-use Rattle.calls.proofs.Checks.{height-passed}
-use Rattle.calls.proofs.Demand.{kept-at-opening}
+use Rattle.rules.specs.Step.{check, first}
+use Rattle.rules.proofs.Checks.{height-passed}
+use Rattle.rules.proofs.Demand.{kept-at-opening}
 use Rattle.admission.specs.Call.{State, Call, direct, join, admit, withdraw}
 use Rattle.admission.specs.Step.{Outcome, refused, reserve-checks, line-changed, unless, step, open-reserve}
 use Rattle.boxes.specs.History.{History, reply, stateFrom, repliesFrom, stateAfter, Book, enter-event, enter, bookFrom, bookAfter}

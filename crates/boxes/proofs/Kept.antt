@@ -17,15 +17,15 @@ use Rattle.line.proofs.Ordered.{decides-line, line-of-orderly}
 use Rattle.line.proofs.Places.{orderly-passed, orderly-over, waits-passed}
 use Rattle.passes.specs.Events.{granted, waitingAfter}
 use Rattle.passes.proofs.Events.{after-grant}
-use Rattle.calls.specs.Call.{Call as Direct, tenantOf}
-use Rattle.calls.specs.Step.{Outcome as TableOutcome, step as table-step}
-use Rattle.calls.specs.History.{Book as Holdings, write, enter as enter-holding, gave-block}
-use Rattle.calls.proofs.Kept.{Kept as TableKept, sound}
-use Rattle.calls.proofs.Box.{kept-by-call}
-use Rattle.calls.proofs.Answers.{has-node, has-nothing}
-use Rattle.calls.proofs.OneKind.{entered-grant, entered-release, entered-growth}
-use Rattle.calls.proofs.Repeats.{gave-none}
-use Rattle.calls.proofs.Cases.{Granted}
+use Rattle.rules.specs.Call.{Call as Direct, tenantOf}
+use Rattle.rules.specs.Step.{Outcome as TableOutcome, step as table-step}
+use Rattle.rules.specs.History.{Book as Holdings, write, enter as enter-holding, gave-block}
+use Rattle.rules.proofs.Kept.{Kept as TableKept, sound}
+use Rattle.rules.proofs.Box.{kept-by-call}
+use Rattle.rules.proofs.Answers.{has-node, has-nothing}
+use Rattle.rules.proofs.OneKind.{entered-grant, entered-release, entered-growth}
+use Rattle.rules.proofs.Repeats.{gave-none}
+use Rattle.rules.proofs.Cases.{Granted}
 use Rattle.admission.specs.Call.{State, direct}
 use Rattle.admission.specs.Step.{Outcome, refused, with-line, step}
 use Rattle.admission.proofs.Direct.{SoundState}

@@ -14,13 +14,13 @@ use Rattle.table.specs.Table.{nodeAt}
 use Rattle.line.specs.Line.{waitingIn}
 use Rattle.line.specs.Order.{waits}
 use Rattle.line.specs.Changes.{barred, choose, joined, leave}
-use Rattle.calls.specs.Call.{Call as Direct, tenantOf}
-use Rattle.calls.specs.Step.{Check, check, first, level-check, validity, repeats, holdings, grant-holdings as table-holdings}
-use Rattle.calls.specs.Step.{unless as table-unless, checks as table-checks, accepted as table-accepted, step as table-step}
-use Rattle.calls.specs.Demand.{Asks}
-use Rattle.calls.proofs.Checks.{first-of-sound, first-after-none, first-stands, validity-numbered, not-applied, rest-zero}
-use Rattle.calls.proofs.Given.{accepted-answer}
-use Rattle.calls.proofs.Answers.{asked-holdings}
+use Rattle.rules.specs.Call.{Call as Direct, tenantOf}
+use Rattle.rules.specs.Step.{Check, check, first, level-check, validity, repeats, holdings, grant-holdings as table-holdings}
+use Rattle.rules.specs.Step.{unless as table-unless, checks as table-checks, accepted as table-accepted, step as table-step}
+use Rattle.rules.specs.Demand.{Asks}
+use Rattle.rules.proofs.Checks.{first-of-sound, first-after-none, first-stands, validity-numbered, not-applied, rest-zero}
+use Rattle.rules.proofs.Given.{accepted-answer}
+use Rattle.rules.proofs.Answers.{asked-holdings}
 use Rattle.admission.specs.Call.{State, direct, join, admit, withdraw}
 use Rattle.admission.specs.Step.{on-table, refused, no-room, grant-holdings, checks, line-changed, fits, admission, accepted, unless, step}
 use Rattle.admission.proofs.Direct.{unless-on-table, SoundState, first-of-grant}

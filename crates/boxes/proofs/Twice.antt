@@ -6,12 +6,12 @@ use mathlib.Core.Option.{some, none}
 use Prim.Native.Nat.{ℕ, zero, suc}
 use native.Mathlib.Decide.{ℕ-discrete}
 use borrow.Author.Tests.{eq-eqb}
-use Rattle.calls.specs.Call.{Call as Direct, grant-level, grant-pages, release, grow, tenantOf}
-use Rattle.calls.specs.Step.{Outcome as TableOutcome, first, validity}
+use Rattle.rules.specs.Call.{Call as Direct, grant-level, grant-pages, release, grow, tenantOf}
+use Rattle.rules.specs.Step.{Outcome as TableOutcome, first, validity}
 use Rattle.sizes.specs.Level.{levelFor}
-use Rattle.calls.specs.History.{Book as Holdings, enter as enter-holding, is-grant as grants}
-use Rattle.calls.specs.Demand.{Valid, Asks, by-level, by-pages}
-use Rattle.calls.proofs.OneKind.{entered-grant, grants-do-not-release, grants-do-not-grow}
+use Rattle.rules.specs.History.{Book as Holdings, enter as enter-holding, is-grant as grants}
+use Rattle.rules.specs.Demand.{Valid, Asks, by-level, by-pages}
+use Rattle.rules.proofs.OneKind.{entered-grant, grants-do-not-release, grants-do-not-grow}
 use Rattle.admission.specs.Call.{State, Call, direct, join, admit, withdraw}
 use Rattle.admission.specs.Step.{Outcome, checks, accepted, unless, step}
 use Rattle.boxes.specs.History.{History, Reply, reply, stateFrom, repliesFrom, stateAfter, Book, enter, bookAfter}

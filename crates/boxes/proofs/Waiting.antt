@@ -22,16 +22,16 @@ use Rattle.line.specs.Changes.{once-more, leave, placeChosen, joined}
 use Rattle.line.proofs.Numbers.{read-of-line}
 use Rattle.line.proofs.Ordered.{orderly-at}
 use Rattle.line.proofs.Places.{waits-at, chosen-fits, seldom-before-chosen}
-use Rattle.calls.specs.Call.{Call as Direct, tenantOf}
-use Rattle.calls.specs.Step.{Outcome as TableOutcome, step as table-step}
-use Rattle.calls.specs.History.{Book as Holdings, enter as enter-holding, held}
-use Rattle.calls.specs.Accepted.{Gave}
-use Rattle.calls.proofs.Accepted.{demand-2}
-use Rattle.calls.proofs.Box.{kept-by-call}
-use Rattle.calls.proofs.Cases.{Granted}
-use Rattle.calls.proofs.OneKind.{entered-grant}
-use Rattle.calls.proofs.Kept.{Kept as TableKept, held-is-count}
-use Rattle.calls.proofs.Answers.{has-node, has-nothing}
+use Rattle.rules.specs.Call.{Call as Direct, tenantOf}
+use Rattle.rules.specs.Step.{Outcome as TableOutcome, step as table-step}
+use Rattle.rules.specs.History.{Book as Holdings, enter as enter-holding, held}
+use Rattle.rules.specs.Accepted.{Gave}
+use Rattle.rules.proofs.Accepted.{demand-2}
+use Rattle.rules.proofs.Box.{kept-by-call}
+use Rattle.rules.proofs.Cases.{Granted}
+use Rattle.rules.proofs.OneKind.{entered-grant}
+use Rattle.rules.proofs.Kept.{Kept as TableKept, held-is-count}
+use Rattle.rules.proofs.Answers.{has-node, has-nothing}
 use Rattle.admission.specs.Call.{State, Call, direct, join, admit, withdraw}
 use Rattle.admission.specs.Step.{Outcome, on-table, fits, step, refused, with-line, line-changed}
 use Rattle.boxes.specs.History.{Book, reply, enter, stateFrom}

@@ -13,16 +13,16 @@ use Rattle.line.specs.Line.{lineOf, waitingIn}
 use Rattle.line.specs.Order.{waits}
 use Rattle.line.specs.Changes.{barred, once-more}
 use Rattle.sizes.specs.Level.{levelFor}
-use Rattle.calls.specs.Call.{Call as Direct, grant-level, grant-pages, release, grow, tenantOf}
-use Rattle.calls.specs.Step.{Outcome as TableOutcome, check, first, validity, repeats, holdings, grant-holdings as table-holdings}
-use Rattle.calls.specs.Step.{unless as table-unless, accepted as table-accepted, step as table-step}
-use Rattle.calls.specs.Demand.{Asks, by-level, by-pages, Releases, releases, Grows, grows}
-use Rattle.calls.proofs.Checks.{first-of-sound, first-after-none, validity-numbered}
-use Rattle.calls.proofs.Given.{accepted-answer}
-use Rattle.calls.proofs.Answers.{asked-holdings}
-use Rattle.calls.proofs.OneKind.{grants-do-not-release, grants-do-not-grow}
-use Rattle.calls.proofs.Repeats.{repeats-holds}
-use Rattle.calls.proofs.Cases.{Granted, Repeated, Released, Grown, Case, by-grant, by-repetition, by-release, by-growth, by-refusal, case, both-zero}
+use Rattle.rules.specs.Call.{Call as Direct, grant-level, grant-pages, release, grow, tenantOf}
+use Rattle.rules.specs.Step.{Outcome as TableOutcome, check, first, validity, repeats, holdings, grant-holdings as table-holdings}
+use Rattle.rules.specs.Step.{unless as table-unless, accepted as table-accepted, step as table-step}
+use Rattle.rules.specs.Demand.{Asks, by-level, by-pages, Releases, releases, Grows, grows}
+use Rattle.rules.proofs.Checks.{first-of-sound, first-after-none, validity-numbered}
+use Rattle.rules.proofs.Given.{accepted-answer}
+use Rattle.rules.proofs.Answers.{asked-holdings}
+use Rattle.rules.proofs.OneKind.{grants-do-not-release, grants-do-not-grow}
+use Rattle.rules.proofs.Repeats.{repeats-holds}
+use Rattle.rules.proofs.Cases.{Granted, Repeated, Released, Grown, Case, by-grant, by-repetition, by-release, by-growth, by-refusal, case, both-zero}
 use Rattle.admission.specs.Call.{State, direct}
 use Rattle.admission.specs.Step.{Outcome, on-table, refused, no-room, grant-holdings, checks, with-line, line-behind, accepted, unless, step}
 use Rattle.admission.proofs.Direct.{release-alone, growth-alone, grant-line, SoundState, first-of-grant}

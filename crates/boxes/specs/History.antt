@@ -7,8 +7,8 @@ use Prim.Native.Nat.{ℕ, zero, suc}
 use lib.Dec.{eqb}
 use Rattle.line.specs.Line.{Waiting}
 use Rattle.passes.specs.Events.{Event, joins, withdraws, admitted, granted, waitingAfter}
-use Rattle.calls.specs.Call.{Call as Direct, tenantOf}
-use Rattle.calls.specs.History.{Book as Holdings, write, enter as enter-holding, gave-block}
+use Rattle.rules.specs.Call.{Call as Direct, tenantOf}
+use Rattle.rules.specs.History.{Book as Holdings, write, enter as enter-holding, gave-block}
 use Rattle.admission.specs.Call.{State, Call, direct, join, admit, withdraw}
 use Rattle.admission.specs.Step.{Outcome, step, open-reserve}
 

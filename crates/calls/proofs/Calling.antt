@@ -7,15 +7,15 @@ use native.Mathlib.Omega.{arith}
 use lib.Dec.{eqb, ltb}
 use lib.ListN.{length}
 use Rattle.table.specs.Table.{in-order?}
-use Rattle.calls.specs.Call.{Call, tenantOf}
-use Rattle.calls.specs.Step.{refused, Check, check, first, reserve-checks, size-checks, validity, holdings, unless, accepted, step}
+use Rattle.rules.specs.Call.{Call, tenantOf}
+use Rattle.rules.specs.Step.{refused, Check, check, first, reserve-checks, size-checks, validity, holdings, unless, accepted, step}
 use Rattle.calls.specs.Changes.{Ready, changeOn}
-use Rattle.calls.specs.Value.{callOf}
-use Rattle.calls.specs.declared.Call.{Call as Arguments}
-use Rattle.calls.specs.declared.Call.the-variants.{GrantLevel, GrantPages, Release, Grow}
-use Rattle.calls.proofs.Checks.{Numbered, validity-numbered, first-after-none, first-stands, rest-zero}
-use Rattle.calls.proofs.Checks.{height-passed, length-passed, valid-tenant, valid-size}
-use Rattle.calls.proofs.Opening.{refused-unless}
+use Rattle.rules.specs.Value.{callOf}
+use Rattle.rules.specs.declared.Call.{Call as Arguments}
+use Rattle.rules.specs.declared.Call.the-variants.{GrantLevel, GrantPages, Release, Grow}
+use Rattle.rules.proofs.Checks.{Numbered, validity-numbered, first-after-none, first-stands, rest-zero}
+use Rattle.rules.proofs.Checks.{height-passed, length-passed, valid-tenant, valid-size}
+use Rattle.rules.proofs.Opening.{refused-unless}
 
 -- 1 to 6
 abbrev pub arguments : ℕ → List ℕ → Call → List Check

@@ -30,18 +30,18 @@ use Rattle.plans.proofs.Written.{written-is-moved}
 use Rattle.plans.proofs.PlanOf.{moves-in-plan-of, count-in-plan-of, made-of-its-moves}
 use Rattle.plans.proofs.PlanLaws.{Replan, plannable, plan-of-table, replan}
 use Rattle.carrying.specs.Order.{inOrder, Orderable}
-use Rattle.calls.specs.Step.{countsBut, granted, released}
-use Rattle.calls.specs.History.{inTable}
-use Rattle.calls.specs.Value.{Gives, TenantsIn}
-use Rattle.calls.specs.declared.Answer.the-variants.{Done}
+use Rattle.rules.specs.Step.{countsBut, granted, released}
+use Rattle.rules.specs.History.{inTable}
+use Rattle.rules.specs.Value.{Gives, TenantsIn}
+use Rattle.rules.specs.declared.Answer.the-variants.{Done}
 use Rattle.calls.specs.Changes.{Ready, others, Target, given-up, placed, Resettled}
-use Rattle.calls.proofs.Given.{above-zero}
-use Rattle.calls.proofs.Kept.{Kept, level-in-counts}
-use Rattle.calls.proofs.Struck.{node-after-set}
-use Rattle.calls.proofs.Placing.{Coming, new-counts-fit, coming-movable, grant-coming}
-use Rattle.calls.proofs.Releasing.{release-movable, counts-before, level-in-fewer, fewer-counts-fit, growth-coming}
-use Rattle.calls.proofs.Reported.{grant-moves-few, release-moves-few, growth-moves-few}
-use Rattle.calls.proofs.Accepted.{kept-of-order}
+use Rattle.rules.proofs.Given.{above-zero}
+use Rattle.rules.proofs.Kept.{Kept, level-in-counts}
+use Rattle.rules.proofs.Struck.{node-after-set}
+use Rattle.rules.proofs.Placing.{Coming, new-counts-fit, coming-movable, grant-coming}
+use Rattle.rules.proofs.Releasing.{release-movable, counts-before, level-in-fewer, fewer-counts-fit, growth-coming}
+use Rattle.rules.proofs.Reported.{grant-moves-few, release-moves-few, growth-moves-few}
+use Rattle.rules.proofs.Accepted.{kept-of-order}
 use Rattle.calls.proofs.Changing.{others-are-all, nothing-to-strike, others-of-holder}
 
 -- a reserve has at most 4,096 pages

@@ -16,10 +16,10 @@ use Rattle.table.specs.Owners.{ownersOf}
 use Rattle.sizes.specs.Level.{levelFor}
 use Rattle.survey.specs.declared.Finding.{Finding}
 use Rattle.survey.proofs.Surveyed.{Surveyed}
-use Rattle.calls.specs.Call.{Call, grant-level, grant-pages, release, grow}
-use Rattle.calls.specs.Step.{check, first, countsBut, refused, granted, repeated, released, unless}
+use Rattle.rules.specs.Call.{Call, grant-level, grant-pages, release, grow}
+use Rattle.rules.specs.Step.{check, first, countsBut, refused, granted, repeated, released, unless}
 use Rattle.calls.specs.Changes.{Looked, without, others, placeOn, toHolder, grantOn, releaseOn, growOn, changeOn}
-use Rattle.calls.proofs.Repeats.{repeats-if-holder, never-repeats}
+use Rattle.rules.proofs.Repeats.{repeats-if-holder, never-repeats}
 
 -- ---- a grant to one that holds node n
 

@@ -7,13 +7,13 @@ use Prim.Native.Nat.{ℕ, zero, suc, _≤_, zero-le}
 use native.Mathlib.Omega.{arith}
 use lib.ListN.{length}
 use Rattle.table.specs.Table.{in-order?}
-use Rattle.calls.specs.Call.{Call, entriesOf, leastEntries}
-use Rattle.calls.specs.Step.{Outcome, check, first, holdings, checks, accepted, unless, step}
-use Rattle.calls.specs.Value.{callOf}
-use Rattle.calls.specs.declared.Call.{Call as Arguments}
-use Rattle.calls.specs.declared.Call.the-variants.{GrantLevel, GrantPages, Release, Grow}
-use Rattle.calls.proofs.Cases.{both-zero}
-use Rattle.calls.proofs.Checks.{valid-entries}
+use Rattle.rules.specs.Call.{Call, entriesOf, leastEntries}
+use Rattle.rules.specs.Step.{Outcome, check, first, holdings, checks, accepted, unless, step}
+use Rattle.rules.specs.Value.{callOf}
+use Rattle.rules.specs.declared.Call.{Call as Arguments}
+use Rattle.rules.specs.declared.Call.the-variants.{GrantLevel, GrantPages, Release, Grow}
+use Rattle.rules.proofs.Cases.{both-zero}
+use Rattle.rules.proofs.Checks.{valid-entries}
 use Rattle.calls.proofs.Calling.{arguments, arguments-numbered, valid, ready}
 
 pub entries-of : (c : Arguments) (m : ℕ) → entriesOf (callOf c m) ≡ m

@@ -16,9 +16,9 @@ use Rattle.table.specs.Pairing.{newcomer, moved, movesOf}
 use Rattle.plans.specs.Plan.{planOf}
 use Rattle.plans.specs.declared.Planned.{Planned}
 use Rattle.carrying.specs.Order.{inOrder}
-use Rattle.calls.specs.Call.{Call}
-use Rattle.calls.specs.Step.{Outcome, refused, check, first, grant-holdings, grow-holdings, countsBut, holdings}
-use Rattle.calls.specs.Step.{granted, repeated, blockFor, released, accepted, unless}
+use Rattle.rules.specs.Call.{Call}
+use Rattle.rules.specs.Step.{Outcome, refused, check, first, grant-holdings, grow-holdings, countsBut, holdings}
+use Rattle.rules.specs.Step.{granted, repeated, blockFor, released, accepted, unless}
 
 -- the arguments have passed 1, 2 and 4
 pub record Ready (h : ℕ) (T : List ℕ) (t : ℕ) : Type 0 where

@@ -2,7 +2,7 @@
 ghost use mathlib.Core.Path.{_≡_};
 ghost use Rattle.table.specs.Pairing.{written};
 ghost use Rattle.plans.specs.Plan.{movesIn};
-ghost use Rattle.calls.specs.Value.{TenantsIn};
+ghost use Rattle.rules.specs.Value.{TenantsIn};
 use plans::Plan;
 
 // Gives each tenant of the plan its new node.

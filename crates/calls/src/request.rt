@@ -2,9 +2,8 @@
 ghost use mathlib.Core.Path.{_≡_};
 ghost use mathlib.Core.List.{_++_};
 ghost use Prim.Native.Nat.{_≤_};
-ghost use Rattle.calls.specs.Step.{first, length-checks, list-checks, size-checks, validity};
-ghost use Rattle.calls.specs.Value.{callOf};
-use crate::Call;
+ghost use Rattle.rules.specs.Step.{first, length-checks, list-checks, size-checks, validity};
+ghost use Rattle.rules.specs.Value.{callOf};
 use layout::MAX_HEIGHT;
 use refusal::HEIGHT;
 use refusal::LEVEL;
@@ -12,6 +11,7 @@ use refusal::MOVES;
 use refusal::PAGES;
 use refusal::TABLE_LENGTH;
 use refusal::TENANT;
+use rules::Call;
 use table::TENANTS;
 
 // The largest tenant number.

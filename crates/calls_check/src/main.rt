@@ -4,12 +4,12 @@
 // or of the line, that are not 0, each behind its place. The papers' examples are journals in examples/, which tests/listing and tests/door run.
 use admission::Admitted;
 use admission::Request;
-use calls::Answer;
-use calls::Call;
 use line::NUMBERS;
 use line::Named;
 use planner::perform_by_value;
 use plans::Plan;
+use rules::Answer;
+use rules::Call;
 use table::Move;
 
 // The height of the reserve.

@@ -18,12 +18,12 @@ use Rattle.line.specs.Changes.{InForm, once-more, leave, choose, placeOf, place
 use Rattle.line.proofs.Numbers.{length-standing, getD-waiting, read-of-line}
 use Rattle.line.proofs.Ordered.{orderly-at, in-form, line-of-orderly}
 use Rattle.line.proofs.Places.{waits-by-place, leave-by-place, withdraw-by-place, place-of-own, orderly-withdrawn, chosen-is, none-chosen}
-use Rattle.calls.specs.Call.{grant-level}
-use Rattle.calls.specs.Step.{Check, check, first}
-use Rattle.calls.specs.Value.{answerOf}
-use Rattle.calls.specs.declared.Answer.{Answer}
-use Rattle.calls.specs.declared.Answer.the-variants.{Refused}
-use Rattle.calls.proofs.Checks.{Numbered}
+use Rattle.rules.specs.Call.{grant-level}
+use Rattle.rules.specs.Step.{Check, check, first}
+use Rattle.rules.specs.Value.{answerOf}
+use Rattle.rules.specs.declared.Answer.{Answer}
+use Rattle.rules.specs.declared.Answer.the-variants.{Refused}
+use Rattle.rules.proofs.Checks.{Numbered}
 use Rattle.calls.proofs.Calling.{arguments}
 use Rattle.admission.specs.Call.{State, admit}
 use Rattle.admission.specs.Step.{Outcome, refused, reserve-checks, fits, admission, step}

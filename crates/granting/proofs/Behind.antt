@@ -14,22 +14,22 @@ use Rattle.line.specs.Line.{Waiting, lineOf, waitingIn}
 use Rattle.line.specs.Order.{waits, line-in-order?}
 use Rattle.line.specs.Changes.{InForm, barred, once-more, front}
 use Rattle.line.proofs.Ordered.{decides-line, in-form}
-use Rattle.calls.specs.Call.{Call as Direct, tenantOf}
-use Rattle.calls.specs.Step.{Outcome as TableOutcome, Check, check, first, validity, repeats, block-checks}
-use Rattle.calls.specs.Step.{grant-holdings as table-holdings, holdings}
-use Rattle.calls.specs.Step.{refused as table-refused, checks as table-checks, accepted as table-accepted, step as table-step}
+use Rattle.rules.specs.Call.{Call as Direct, tenantOf}
+use Rattle.rules.specs.Step.{Outcome as TableOutcome, Check, check, first, validity, repeats, block-checks}
+use Rattle.rules.specs.Step.{grant-holdings as table-holdings, holdings}
+use Rattle.rules.specs.Step.{refused as table-refused, checks as table-checks, accepted as table-accepted, step as table-step}
 use Rattle.calls.specs.Changes.{changeOn}
-use Rattle.calls.specs.Demand.{Asks, by-level, by-pages, releases, grows}
-use Rattle.calls.specs.Value.{callOf, numberOf, Gives as TableGives}
-use Rattle.calls.specs.declared.Call.{Call as Arguments}
-use Rattle.calls.specs.declared.Call.the-variants.{GrantLevel, GrantPages, Release, Grow}
-use Rattle.calls.specs.declared.Called.{Called}
-use Rattle.calls.proofs.Checks.{Numbered, validity-numbered, first-after-none, rest-zero, not-applied, valid-tenant, answer-is-first}
+use Rattle.rules.specs.Demand.{Asks, by-level, by-pages, releases, grows}
+use Rattle.rules.specs.Value.{callOf, numberOf, Gives as TableGives}
+use Rattle.rules.specs.declared.Call.{Call as Arguments}
+use Rattle.rules.specs.declared.Call.the-variants.{GrantLevel, GrantPages, Release, Grow}
+use Rattle.rules.specs.declared.Called.{Called}
+use Rattle.rules.proofs.Checks.{Numbered, validity-numbered, first-after-none, rest-zero, not-applied, valid-tenant, answer-is-first}
 use Rattle.calls.proofs.Calling.{arguments, arguments-numbered, changes}
-use Rattle.calls.proofs.Cases.{both-zero}
-use Rattle.calls.proofs.Answers.{asked-holdings}
-use Rattle.calls.proofs.Given.{gives-same as table-same, value-of-step}
-use Rattle.calls.proofs.Repeats.{never-repeats}
+use Rattle.rules.proofs.Cases.{both-zero}
+use Rattle.rules.proofs.Answers.{asked-holdings}
+use Rattle.rules.proofs.Given.{gives-same as table-same, value-of-step}
+use Rattle.rules.proofs.Repeats.{never-repeats}
 use Rattle.admission.specs.Call.{State, Call, direct}
 use Rattle.admission.specs.Step.{Outcome, reserve-checks, order-check, no-room, grant-holdings, checks}
 use Rattle.admission.specs.Step.{with-line, line-behind, line-after, unless, step}

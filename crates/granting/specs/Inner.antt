@@ -9,8 +9,8 @@ use Rattle.table.specs.Table.{nodeAt}
 use Rattle.line.specs.Line.{Waiting, waitingIn}
 use Rattle.line.specs.Order.{waits, line-in-order?}
 use Rattle.line.specs.Changes.{barred}
-use Rattle.calls.specs.Call.{Call, tenantOf}
-use Rattle.calls.specs.Step.{Check, check, first, validity}
+use Rattle.rules.specs.Call.{Call, tenantOf}
+use Rattle.rules.specs.Step.{Check, check, first, validity}
 use Rattle.calls.specs.Changes.{Looked}
 use Rattle.admission.specs.Call.{State}
 use Rattle.admission.specs.Step.{reserve-checks}

@@ -15,14 +15,14 @@ ghost use Rattle.admission.specs.Inner.{Unnamed};
 ghost use Rattle.granting.specs.Inner.{Prepared};
 ghost use Rattle.admission.specs.declared.Request.the-variants.{Admit};
 use admission::Admitted;
-use calls::Answer;
-use calls::Call;
 use calls::change::settle;
 use layout::Counts;
 use layout::power;
 use line::Named;
 use plans::Plan;
 use refusal::NOT_IN_ORDER;
+use rules::Answer;
+use rules::Call;
 use table::NODES;
 
 // A request that names nobody, and has no moves.

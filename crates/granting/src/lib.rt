@@ -1,5 +1,5 @@
 // The calls that may move tenants, over a lent table and a lent line: grants, releases and growths, and admits.
-ghost use Rattle.calls.specs.Value.{callOf};
+ghost use Rattle.rules.specs.Value.{callOf};
 ghost use Rattle.admission.specs.Call.{direct};
 ghost use Rattle.admission.specs.Step.{step};
 ghost use Rattle.admission.specs.Value.{requested, lent, Gives, GivesAdmitted};
@@ -7,13 +7,13 @@ ghost use Rattle.granting.specs.Inner.{Prepared};
 ghost use Rattle.admission.specs.declared.Request.the-variants.{Direct};
 use admission::Admitted;
 use admission::Request;
-use calls::Answer;
-use calls::Call;
-use calls::Called;
 use calls::change::settle;
 use layout::Counts;
 use line::Named;
 use refusal::NOT_IN_ORDER;
+use rules::Answer;
+use rules::Call;
+use rules::Called;
 use table::NODES;
 
 mod chosen;

@@ -9,9 +9,9 @@ use borrow.Author.Tests.{eqb-false, ne-eqb}
 use lib.Dec.{eqb}
 use lib.ListN.{length}
 use Rattle.table.specs.Table.{nodeAt}
-use Rattle.calls.specs.Call.{Call as Direct, grant-level, grant-pages, release, grow, tenantOf}
-use Rattle.calls.specs.Step.{Outcome as TableOutcome, first, step as table-step}
-use Rattle.calls.specs.Demand.{Releases, releases, Grows, grows, Unchanged, SameFate}
+use Rattle.rules.specs.Call.{Call as Direct, grant-level, grant-pages, release, grow, tenantOf}
+use Rattle.rules.specs.Step.{Outcome as TableOutcome, first, step as table-step}
+use Rattle.rules.specs.Demand.{Releases, releases, Grows, grows, Unchanged, SameFate}
 use Rattle.admission.specs.Call.{State, Call, direct, join, admit, withdraw}
 use Rattle.admission.specs.Step.{Outcome as Done, on-table, with-line, checks, accepted, unless, step, open-reserve}
 use Rattle.admission.proofs.Direct.{release-alone, growth-alone}

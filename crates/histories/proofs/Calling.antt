@@ -9,7 +9,7 @@ use Rattle.journal.specs.declared.Read.{Read}
 use Rattle.journal.specs.Format.{kindOf}
 use Rattle.journal.specs.Reader.{readAt}
 use Rattle.journal.specs.Journal.{CanStand}
-use Rattle.calls.specs.Call.{grant-level, grant-pages, release, grow}
+use Rattle.rules.specs.Call.{grant-level, grant-pages, release, grow}
 use Rattle.admission.specs.Call.{State as Reserve, Call, direct, join, admit, withdraw}
 use Rattle.admission.specs.Step.{step}
 use Rattle.replay.specs.Replay.{State, outcomeOf, heightAfter, listed, turn}

@@ -8,9 +8,9 @@ use Prim.Native.Nat.{ℕ, _≤_}
 use lib.Dec.{eqb}
 use Rattle.table.specs.Table.{nodeAt}
 use Rattle.line.specs.Order.{waits}
-use Rattle.calls.specs.Call.{Call as Direct, grant-level, grant-pages, release, grow, tenantOf}
-use Rattle.calls.specs.History.{held}
-use Rattle.calls.specs.Demand.{Valid, Asks, Grows, NoPlacement, NoExchange}
+use Rattle.rules.specs.Call.{Call as Direct, grant-level, grant-pages, release, grow, tenantOf}
+use Rattle.rules.specs.History.{held}
+use Rattle.rules.specs.Demand.{Valid, Asks, Grows, NoPlacement, NoExchange}
 use Rattle.admission.specs.Call.{Call, direct, join, admit, withdraw}
 use Rattle.admission.specs.Step.{step}
 use Rattle.boxes.specs.History.{Reply, reply, Book}

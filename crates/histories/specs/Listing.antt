@@ -7,7 +7,7 @@ use lib.ListN.{length}
 use Rattle.journal.specs.declared.Record.{Record}
 use Rattle.journal.specs.declared.Read.{Read}
 use Rattle.journal.specs.Journal.{Reading}
-use Rattle.calls.specs.Call.{grant-level, grant-pages, release, grow}
+use Rattle.rules.specs.Call.{grant-level, grant-pages, release, grow}
 use Rattle.admission.specs.Call.{State, Call, direct, join, admit, withdraw}
 use Rattle.admission.specs.Step.{Outcome, step, open-reserve}
 use Rattle.boxes.specs.History.{History, Reply, reply, stateAfter, Book, bookFrom}

@@ -22,11 +22,11 @@ use Rattle.journal.proofs.Theorems.{next-offset}
 use Rattle.sizes.specs.Level.{leastLevel, levelFor}
 use Rattle.line.specs.Line.{lineOf as numbersOf, waitingIn}
 use Rattle.line.specs.Changes.{once-more}
-use Rattle.calls.specs.Call.{Call as Direct, grant-level, grant-pages, release, grow, tenantOf}
-use Rattle.calls.specs.Step.{Check, first, level-check, pages-check, repeats, granted, repeated, blockFor}
-use Rattle.calls.specs.Demand.{Asks, by-level, by-pages}
-use Rattle.calls.proofs.Checks.{Numbered, first-after-none, first-stands}
-use Rattle.calls.proofs.Repeats.{repeats-holds}
+use Rattle.rules.specs.Call.{Call as Direct, grant-level, grant-pages, release, grow, tenantOf}
+use Rattle.rules.specs.Step.{Check, first, level-check, pages-check, repeats, granted, repeated, blockFor}
+use Rattle.rules.specs.Demand.{Asks, by-level, by-pages}
+use Rattle.rules.proofs.Checks.{Numbered, first-after-none, first-stands}
+use Rattle.rules.proofs.Repeats.{repeats-holds}
 use Rattle.admission.specs.Call.{State, Call, direct, join, admit, withdraw}
 use Rattle.admission.specs.Step.{Outcome, refused, grant-holdings, with-line, line-behind, unless, step, open-reserve}
 use Rattle.lines.specs.Ascii.{byte, bytes}

@@ -14,8 +14,8 @@ use Rattle.line.specs.Order.{waits}
 use Rattle.line.specs.Changes.{barred, once-more}
 use Rattle.journal.specs.declared.Record.{Record}
 use Rattle.sizes.specs.Level.{leastLevel}
-use Rattle.calls.specs.Call.{grant-level, grant-pages, release, grow}
-use Rattle.calls.specs.Step.{Check, check, first, list-checks, level-check, pages-check, granted}
+use Rattle.rules.specs.Call.{grant-level, grant-pages, release, grow}
+use Rattle.rules.specs.Step.{Check, check, first, list-checks, level-check, pages-check, granted}
 use Rattle.admission.specs.Call.{State, Call, direct, join, admit, withdraw}
 use Rattle.admission.specs.Step.{Outcome, reserve-checks, order-check, no-room, with-line, unless, step, open-reserve}
 use Rattle.replay.specs.Listing.{vacant}

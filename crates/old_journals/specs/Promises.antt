@@ -15,9 +15,9 @@ use Rattle.conversion.specs.declared.Conversion.{Conversion}
 use Rattle.conversion.specs.Conversion.{converted, convertedJournal, judged}
 use Rattle.tree.specs.Node.{level}
 use Rattle.table.specs.Table.{nodeAt}
-use Rattle.calls.specs.Call.{Call as Direct, tenantOf}
-use Rattle.calls.specs.Step.{repeated}
-use Rattle.calls.specs.Demand.{Asks}
+use Rattle.rules.specs.Call.{Call as Direct, tenantOf}
+use Rattle.rules.specs.Step.{repeated}
+use Rattle.rules.specs.Demand.{Asks}
 use Rattle.admission.specs.Call.{State, Call, direct}
 use Rattle.admission.specs.Step.{Outcome, refused, with-line}
 use Rattle.histories.specs.Listing.{callsOf, Opens, reported, openLine, linesAfter}

@@ -8,9 +8,9 @@ use borrow.Author.Tests.{lt-ltb, le-ltb, ltb-false, eq-eqb}
 use lib.Dec.{ltb, eqb}
 use lib.ListN.{length, drop}
 use Rattle.table.specs.Table.{in-order?}
-use Rattle.calls.specs.Step.{check, first, reserve-checks}
-use Rattle.calls.proofs.Checks.{first-stands, not-applied}
-use Rattle.calls.proofs.Opening.{table-length}
+use Rattle.rules.specs.Step.{check, first, reserve-checks}
+use Rattle.rules.proofs.Checks.{first-stands, not-applied}
+use Rattle.rules.proofs.Opening.{table-length}
 use Rattle.pagemap.specs.Map.{pageMap}
 use Rattle.pagemap.specs.Draw.{drawing, map-checks, unlessRefused, drawn}
 

@@ -5,7 +5,7 @@ use Prim.Native.Nat.{ℕ, zero, suc}
 use lib.Dec.{ltb}
 use lib.ListN.{length, drop}
 use Rattle.table.specs.Table.{in-order?}
-use Rattle.calls.specs.Step.{Check, check, first, reserve-checks}
+use Rattle.rules.specs.Step.{Check, check, first, reserve-checks}
 use Rattle.pagemap.specs.Map.{pageMap}
 
 -- the answer's number, and the map afterwards

@@ -13,16 +13,16 @@ use Rattle.sizes.specs.Level.{levelFor}
 use Rattle.line.specs.Line.{Waiting, waitingIn}
 use Rattle.line.specs.Order.{waits, line-in-order?}
 use Rattle.line.specs.Changes.{barred, choose}
-use Rattle.calls.specs.Call.{Call as TableCall, grant-level, grant-pages, release, grow, entriesOf}
-use Rattle.calls.specs.Step.{Outcome as TableOutcome, Check, check, first, validity, repeats}
-use Rattle.calls.specs.Step.{reserve-checks as table-reserve-checks, grant-holdings as table-holdings, checks as table-checks}
-use Rattle.calls.specs.Step.{unless as table-unless, accepted as table-accepted, step as table-step}
-use Rattle.calls.specs.Value.{callOf}
-use Rattle.calls.proofs.Checks.{Numbered, validity-numbered, first-after-none}
-use Rattle.calls.proofs.Cases.{both-zero}
+use Rattle.rules.specs.Call.{Call as TableCall, grant-level, grant-pages, release, grow, entriesOf}
+use Rattle.rules.specs.Step.{Outcome as TableOutcome, Check, check, first, validity, repeats}
+use Rattle.rules.specs.Step.{reserve-checks as table-reserve-checks, grant-holdings as table-holdings, checks as table-checks}
+use Rattle.rules.specs.Step.{unless as table-unless, accepted as table-accepted, step as table-step}
+use Rattle.rules.specs.Value.{callOf}
+use Rattle.rules.proofs.Checks.{Numbered, validity-numbered, first-after-none}
+use Rattle.rules.proofs.Cases.{both-zero}
 use Rattle.calls.proofs.Entries.{entries-of, moves-within}
-use Rattle.calls.proofs.Few as Few
-use Rattle.calls.proofs.OneKind.{at-most-7}
+use Rattle.rules.proofs.Few as Few
+use Rattle.rules.proofs.OneKind.{at-most-7}
 use Rattle.admission.specs.Call.{State, direct, admit}
 use Rattle.admission.specs.Step.{order-check, no-room, grant-holdings, grant-checks, checks, fits, with-line, line-after, admission, unless, step}
 use Rattle.admission.specs.Value.{requested}

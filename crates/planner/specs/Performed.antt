@@ -4,7 +4,7 @@ use mathlib.Core.List.{List, _++_}
 use Prim.Native.Nat.{ℕ}
 use lib.ListN.{length, drop}
 use Rattle.table.specs.declared.Move.{Move}
-use Rattle.calls.specs.Value.{answerOf}
+use Rattle.rules.specs.Value.{answerOf}
 use Rattle.admission.specs.Step.{Outcome, step}
 use Rattle.admission.specs.Value.{requested, lent, namedOf}
 use Rattle.admission.specs.declared.Request.{Request}

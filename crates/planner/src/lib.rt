@@ -9,10 +9,10 @@ ghost use Rattle.admission.specs.Value.{requested, lent, GivesAdmitted};
 ghost use Rattle.planner.specs.Performed.{Performed};
 use admission::Admitted;
 use admission::Request;
-use calls::Answer;
 use granting::run;
 use line::Named;
 use plans::Plan;
+use rules::Answer;
 use table::Move;
 
 // What a call reports: its answer, whom an admit granted, and how many moves stand in the list.

@@ -10,11 +10,11 @@ use borrow.Author.Tests.{eq-eqb, ne-eqb}
 use lib.Dec.{eqb}
 use lib.ListN.{length, take, drop, replicate}
 use Rattle.line.specs.Line.{triples, lineOf}
-use Rattle.calls.specs.Step.{first}
-use Rattle.calls.specs.Call.{grant-level, grant-pages}
-use Rattle.calls.specs.Value.{numberOf, answerOf}
-use Rattle.calls.specs.declared.Answer.{Answer}
-use Rattle.calls.proofs.Given.{number-of-answer}
+use Rattle.rules.specs.Step.{first}
+use Rattle.rules.specs.Call.{grant-level, grant-pages}
+use Rattle.rules.specs.Value.{numberOf, answerOf}
+use Rattle.rules.specs.declared.Answer.{Answer}
+use Rattle.rules.proofs.Given.{number-of-answer}
 use Rattle.admission.specs.Call.{State, Call, direct, join, admit, withdraw}
 use Rattle.admission.specs.Step.{Outcome as Done, on-table, checks, accepted, unless, step, reserve-checks, open-reserve}
 use Rattle.admission.specs.Value.{requested, lent, admittedOf, GivesAdmitted}

@@ -7,15 +7,15 @@ use native.Mathlib.Decide.{ℕ-discrete}
 use borrow.Author.Tests.{eq-eqb, ne-eqb}
 use lib.ListN.{length, take, drop, drop-of-length-le}
 use lib.Seq.{length-take-le, length-front}
-use Rattle.calls.specs.Call.{Call}
-use Rattle.calls.specs.Step.{Outcome as Result, step}
-use Rattle.calls.specs.Value.{callOf, numberOf, Gives, valueOf}
-use Rattle.calls.specs.declared.Call.{Call as Arguments}
+use Rattle.rules.specs.Call.{Call}
+use Rattle.rules.specs.Step.{Outcome as Result, step}
+use Rattle.rules.specs.Value.{callOf, numberOf, Gives, valueOf}
+use Rattle.rules.specs.declared.Call.{Call as Arguments}
 use Rattle.plans.proofs.PlanOf.{count-in-plan-of}
-use Rattle.calls.proofs.Few as Few
-use Rattle.calls.proofs.OneKind.{at-most-7}
-use Rattle.calls.specs.declared.Called.{Called}
-use Rattle.calls.proofs.Given.{value-of-step}
+use Rattle.rules.proofs.Few as Few
+use Rattle.rules.proofs.OneKind.{at-most-7}
+use Rattle.rules.specs.declared.Called.{Called}
+use Rattle.rules.proofs.Given.{value-of-step}
 use Rattle.calls.proofs.Entries.{entries-of, moves-within, done-table}
 use Rattle.image.specs.Image.{imageOf, lentAs, tableOf, moveBytes, Decoded}
 use Rattle.reserve.specs.Door.{imageAfter, Reported}

@@ -6,9 +6,9 @@ use mathlib.Core.Option.{Option, some, none}
 use Prim.Native.Nat.{ℕ, _*_, _/_}
 use lib.Dec.{eqb}
 use lib.ListN.{length, drop}
-use Rattle.calls.specs.Call.{Call}
-use Rattle.calls.specs.Step.{Outcome as Result, step as table-step}
-use Rattle.calls.specs.declared.Call.{Call as Arguments}
+use Rattle.rules.specs.Call.{Call}
+use Rattle.rules.specs.Step.{Outcome as Result, step as table-step}
+use Rattle.rules.specs.declared.Call.{Call as Arguments}
 use Rattle.admission.specs.Call.{State, direct, admit}
 use Rattle.admission.specs.Step.{Outcome as Done, on-table, step, open-reserve}
 use Rattle.admission.specs.Value.{lent}

@@ -3,7 +3,7 @@ use mathlib.Core.Path.{sym, ap, _∙_}
 use borrow.Author.Needs.{needs}
 use denote.Ref.{now}
 use Rattle.line.proofs.Ordered.{in-form}
-use Rattle.calls.specs.Value.{answerOf}
+use Rattle.rules.specs.Value.{answerOf}
 use Rattle.admission.specs.Step.{Outcome}
 use Rattle.admission.specs.Value.{lent}
 use Rattle.admission.proofs.Answering.{step-refused, step-accepted, refusal-of}

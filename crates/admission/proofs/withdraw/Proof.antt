@@ -7,8 +7,8 @@ use denote.Ref.{now}
 use Rattle.line.specs.Line.{lineOf, waitingIn}
 use Rattle.line.specs.Changes.{InForm, without}
 use Rattle.line.proofs.Ordered.{in-form}
-use Rattle.calls.specs.Step.{first}
-use Rattle.calls.specs.Value.{answerOf}
+use Rattle.rules.specs.Step.{first}
+use Rattle.rules.specs.Value.{answerOf}
 use Rattle.admission.specs.Call.{State, withdraw}
 use Rattle.admission.specs.Step.{Outcome, checks}
 use Rattle.admission.specs.Value.{lent}

@@ -3,10 +3,10 @@ use mathlib.Core.Path.{_≡_, ap, _∙_}
 use Prim.Native.Nat.{ℕ}
 use borrow.Author.Needs.{needs}
 use lib.ListN.{replicate}
-use Rattle.calls.specs.Step.{Outcome}
-use Rattle.calls.specs.Value.{answerOf}
-use Rattle.calls.proofs.Given.{above-zero, refusal-answer}
-use Rattle.calls.proofs.Opening.{opening-refused, opening-done, table-length}
+use Rattle.rules.specs.Step.{Outcome}
+use Rattle.rules.specs.Value.{answerOf}
+use Rattle.rules.proofs.Given.{above-zero, refusal-answer}
+use Rattle.rules.proofs.Opening.{opening-refused, opening-done, table-length}
 use Rattle.calls.proofs.open.Statement.{statement}
 use Rattle.calls.proofs.open.Tie as tie
 

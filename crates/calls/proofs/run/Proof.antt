@@ -2,8 +2,8 @@
 use borrow.Author.Needs.{needs}
 use Rattle.calls.proofs.run.Statement.{statement}
 use Rattle.calls.proofs.run.Tie as tie
-use Rattle.calls.specs.Value.{callOf}
-use Rattle.calls.proofs.Given.{gives-same}
+use Rattle.rules.specs.Value.{callOf}
+use Rattle.rules.proofs.Given.{gives-same}
 use Rattle.calls.proofs.Calling.{call-refused, ready-to-change, sized-to-change, changes}
 
 call-refusal-requires : tie.Need-call-refusal-requires

@@ -8,9 +8,9 @@ use borrow.Author.Tests.{not-true, not-false}
 use denote.Ref.{now}
 use lib.ListN.{length}
 use Rattle.survey.proofs.Surveyed.{Surveyed, surveyed}
-use Rattle.calls.specs.Step.{first}
+use Rattle.rules.specs.Step.{first}
 use Rattle.calls.proofs.Changing.{looked}
-use Rattle.calls.proofs.Given.{above-zero, refusal-answer}
+use Rattle.rules.proofs.Given.{above-zero, refusal-answer}
 use Rattle.admission.specs.Call.{State}
 use Rattle.admission.specs.Value.{lent}
 use Rattle.admission.specs.Inner.{argument-checks}

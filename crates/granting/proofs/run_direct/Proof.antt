@@ -5,7 +5,7 @@ use Rattle.granting.proofs.run_direct.Tie as tie
 use mathlib.Core.Path.{_≡_, refl, sym, ap, _∙_}
 use denote.Ref.{now}
 use lib.ListN.{length}
-use Rattle.calls.specs.Step.{first}
+use Rattle.rules.specs.Step.{first}
 use Rattle.calls.proofs.Calling.{ready-to-change, sized-to-change}
 use Rattle.granting.proofs.Behind.{level-asked, pages-asked, settled, release-given, growth-given}
 use Rattle.admission.proofs.Requests.{checks-of-level, checks-of-pages, checks-of-release, checks-of-growth}

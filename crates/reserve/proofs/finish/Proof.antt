@@ -5,7 +5,7 @@ use Prim.Native.Nat.{ℕ}
 use lib.ListN.{length}
 use lib.Seq.{length-take-le}
 use Rattle.plans.specs.Plan.{movesIn}
-use Rattle.calls.specs.Value.{numberOf, valueOf}
+use Rattle.rules.specs.Value.{numberOf, valueOf}
 use Rattle.table.proofs.Arrays.{length-of-mapped}
 use Rattle.reserve.proofs.Reports.{report-refused, report-done}
 use borrow.Author.Needs.{needs}

@@ -2,7 +2,7 @@
 use mathlib.Core.Path.{_≡_, sym, _∙_}
 use borrow.Author.Needs.{needs}
 use borrow.Author.Tests.{eq-eqb, ne-eqb}
-use Rattle.calls.specs.Value.{numberOf}
+use Rattle.rules.specs.Value.{numberOf}
 use Rattle.reserve.proofs.report.Statement.{statement}
 use Rattle.reserve.proofs.report.Tie as tie
 

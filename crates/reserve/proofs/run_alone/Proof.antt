@@ -5,7 +5,7 @@ use Prim.Native.Nat.{ℕ, _/_}
 use native.Mathlib.Omega.{arith}
 use borrow.Author.Needs.{needs}
 use lib.ListN.{length, take}
-use Rattle.calls.specs.Value.{callOf}
+use Rattle.rules.specs.Value.{callOf}
 use Rattle.reserve.proofs.Reports.{front-count, array-count, moves-few, moves-fit, call-finishes, call-reported}
 use Rattle.reserve.proofs.run_alone.Statement.{statement}
 use Rattle.reserve.proofs.run_alone.Tie as tie

@@ -3,7 +3,7 @@ use borrow.Author.Needs.{needs}
 use Rattle.admission.proofs.refusals.direct_refusal.Statement.{statement}
 use Rattle.admission.proofs.refusals.direct_refusal.Tie as tie
 use mathlib.Core.Path.{ap, _∙_}
-use Rattle.calls.specs.Step.{first}
+use Rattle.rules.specs.Step.{first}
 use Rattle.admission.proofs.Requests.{checks-of-level, checks-of-pages, checks-of-release, checks-of-growth}
 
 enum-told : tie.Need-enum-told

@@ -1,8 +1,8 @@
 -- `admission::refusals::grant_refusal` meets its contract: what 1 and 2 decide of table and line, and else what 1 to 6 do of the grant.
 use mathlib.Core.Path.{sym, _∙_}
 use borrow.Author.Needs.{needs}
-use Rattle.calls.specs.Step.{validity}
-use Rattle.calls.specs.Value.{callOf}
+use Rattle.rules.specs.Step.{validity}
+use Rattle.rules.specs.Value.{callOf}
 use Rattle.admission.specs.Inner.{lent-checks}
 use Rattle.admission.proofs.Arguments.{found-first, lengths-tested-again}
 use Rattle.admission.proofs.refusals.grant_refusal.Statement.{statement}

@@ -4,7 +4,7 @@ use native.Mathlib.Omega.{arith}
 use borrow.Author.Needs.{needs}
 use borrow.Author.Tests.{lt-ltb, le-ltb}
 use lib.Dec.{ltb}
-use Rattle.calls.specs.Step.{check}
+use Rattle.rules.specs.Step.{check}
 use Rattle.admission.specs.Inner.{lent-checks}
 use Rattle.admission.proofs.Arguments.{found-first, last-applies, none-applies}
 use Rattle.admission.proofs.refusals.level_refusal.Statement.{statement}

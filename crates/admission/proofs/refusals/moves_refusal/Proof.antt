@@ -3,7 +3,7 @@ use mathlib.Core.List.{[], _∷_}
 use borrow.Author.Needs.{needs}
 use borrow.Author.Tests.{lt-ltb, le-ltb}
 use lib.Dec.{ltb}
-use Rattle.calls.specs.Step.{check}
+use Rattle.rules.specs.Step.{check}
 use Rattle.admission.specs.Inner.{lent-checks}
 use Rattle.admission.proofs.Arguments.{found-first, last-applies, none-applies, lent-numbered}
 use Rattle.admission.proofs.refusals.moves_refusal.Statement.{statement}

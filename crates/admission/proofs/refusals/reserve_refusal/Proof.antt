@@ -6,7 +6,7 @@ use native.Mathlib.Omega.{arith}
 use borrow.Author.Needs.{needs}
 use borrow.Author.Tests.{eq-eqb, ne-eqb}
 use lib.Dec.{eqb}
-use Rattle.calls.specs.Step.{check, length-checks}
+use Rattle.rules.specs.Step.{check, length-checks}
 use Rattle.admission.proofs.Arguments.{found-first, last-applies, none-applies}
 use Rattle.admission.proofs.refusals.reserve_refusal.Statement.{statement}
 use Rattle.admission.proofs.refusals.reserve_refusal.Tie as tie

@@ -14,9 +14,9 @@ use Rattle.line.specs.Line.{waitingCount}
 use Rattle.line.specs.Changes.{InForm}
 use Rattle.line.proofs.Numbers.{length-standing}
 use Rattle.line.proofs.Ordered.{in-form}
-use Rattle.calls.specs.Step.{Check, first}
-use Rattle.calls.proofs.Checks.{Numbered}
-use Rattle.calls.proofs.Given.{above-zero}
+use Rattle.rules.specs.Step.{Check, first}
+use Rattle.rules.proofs.Checks.{Numbered}
+use Rattle.rules.proofs.Given.{above-zero}
 use Rattle.admission.specs.Call.{State, join}
 use Rattle.admission.specs.Step.{order-check, checks}
 use Rattle.admission.specs.Value.{lent}

@@ -8,8 +8,8 @@ use borrow.Author.Tests.{not-true, not-false}
 use denote.Ref.{now}
 use lib.ListN.{length}
 use Rattle.line.proofs.Ordered.{in-form}
-use Rattle.calls.specs.Step.{Check, first}
-use Rattle.calls.proofs.Checks.{Numbered}
+use Rattle.rules.specs.Step.{Check, first}
+use Rattle.rules.proofs.Checks.{Numbered}
 use Rattle.admission.specs.Call.{State, withdraw}
 use Rattle.admission.specs.Step.{order-check, checks}
 use Rattle.admission.specs.Value.{lent}

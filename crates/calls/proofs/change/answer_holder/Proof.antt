@@ -3,7 +3,7 @@ use mathlib.Core.Path.{refl}
 use native.Mathlib.Omega.{arith}
 use borrow.Author.Needs.{needs}
 use Rattle.calls.proofs.Changing.{holder-of-level, holder-of-another}
-use Rattle.calls.proofs.Given.{gives-same}
+use Rattle.rules.proofs.Given.{gives-same}
 use Rattle.calls.proofs.change.answer_holder.Statement.{statement}
 use Rattle.calls.proofs.change.answer_holder.Tie as tie
 

@@ -5,8 +5,8 @@ use Rattle.calls.proofs.change.change.Tie as tie
 use mathlib.Core.Path.{sym, _∙_}
 use borrow.Author.Tests.{not-true, not-false}
 use Rattle.survey.proofs.Surveyed.{Surveyed, surveyed}
-use Rattle.calls.specs.Value.{callOf}
-use Rattle.calls.proofs.Given.{gives-same}
+use Rattle.rules.specs.Value.{callOf}
+use Rattle.rules.proofs.Given.{gives-same}
 use Rattle.calls.proofs.Changing.{looked, change-disordered}
 
 -- what the survey shows

@@ -1,7 +1,7 @@
 -- `calls::change::give_up` meets its contract: a refusal where nothing is held, and otherwise the others resettled.
 use Rattle.calls.proofs.Changing.{release-by-nobody, release-by-holder}
 use Rattle.calls.proofs.Changed.{release-gives}
-use Rattle.calls.proofs.Given.{above-zero, gives-same}
+use Rattle.rules.proofs.Given.{above-zero, gives-same}
 use borrow.Author.Needs.{needs}
 use Rattle.calls.proofs.change.give_up.Statement.{statement}
 use Rattle.calls.proofs.change.give_up.Tie as tie

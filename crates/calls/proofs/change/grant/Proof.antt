@@ -1,6 +1,6 @@
 -- `calls::change::grant` meets its contract: a holder is answered without a change, and any other comes as a newcomer.
 use Rattle.calls.proofs.Changing.{grant-to-holder, grant-places}
-use Rattle.calls.proofs.Given.{above-zero, gives-same}
+use Rattle.rules.proofs.Given.{above-zero, gives-same}
 use borrow.Author.Needs.{needs}
 use Rattle.calls.proofs.change.grant.Statement.{statement}
 use Rattle.calls.proofs.change.grant.Tie as tie

@@ -15,7 +15,7 @@ use Rattle.table.specs.Table.{nodeAt}
 use Rattle.calls.specs.Changes.{without, others, Target, placed, Resettled}
 use Rattle.calls.proofs.Changing.{place-without-room, place-with-room}
 use Rattle.calls.proofs.Changed.{others-fit, others-below, place-gives}
-use Rattle.calls.proofs.Given.{gives-same}
+use Rattle.rules.proofs.Given.{gives-same}
 
 abbrev started : tie.After-without → tie.Start
 started x = x .before .before .before

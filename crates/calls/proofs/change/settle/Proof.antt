@@ -4,14 +4,14 @@ use Rattle.calls.proofs.change.settle.Statement.{statement}
 use Rattle.calls.proofs.change.settle.Tie as tie
 use mathlib.Core.Path.{_≡_, sym, ap, subst, _∙_}
 use native.Mathlib.Omega.{arith}
-use Rattle.calls.specs.Call.{tenantOf}
-use Rattle.calls.specs.Step.{first, size-checks}
-use Rattle.calls.specs.Value.{callOf}
-use Rattle.calls.specs.Demand.{by-level, by-pages, grows}
+use Rattle.rules.specs.Call.{tenantOf}
+use Rattle.rules.specs.Step.{first, size-checks}
+use Rattle.rules.specs.Value.{callOf}
+use Rattle.rules.specs.Demand.{by-level, by-pages, grows}
 use Rattle.calls.specs.Changes.{Ready, grantOn, changeOn}
-use Rattle.calls.specs.declared.Call.{Call}
-use Rattle.calls.proofs.Checks.{asked-in-height, grown-in-height}
-use Rattle.calls.proofs.Given.{gives-same}
+use Rattle.rules.specs.declared.Call.{Call}
+use Rattle.rules.proofs.Checks.{asked-in-height, grown-in-height}
+use Rattle.rules.proofs.Given.{gives-same}
 use Rattle.calls.proofs.Changing.{grow-of-nobody, grow-places, change-grants, change-grants-pages, change-releases, change-grows}
 
 -- what is known of the arguments, of the call by its kind

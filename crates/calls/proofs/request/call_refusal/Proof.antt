@@ -7,9 +7,9 @@ use native.Mathlib.Omega.{arith}
 use borrow.Author.Needs.{needs}
 use borrow.Author.Tests.{ltb-false}
 use lib.Dec.{eqb, ltb}
-use Rattle.calls.specs.Step.{Check, check, first, length-checks, list-checks, size-checks, validity}
-use Rattle.calls.specs.Value.{callOf}
-use Rattle.calls.proofs.Checks.{four, four-numbered, first-after-none, first-stands, not-applied, validity-parts}
+use Rattle.rules.specs.Step.{Check, check, first, length-checks, list-checks, size-checks, validity}
+use Rattle.rules.specs.Value.{callOf}
+use Rattle.rules.proofs.Checks.{four, four-numbered, first-after-none, first-stands, not-applied, validity-parts}
 use Rattle.calls.proofs.request.call_refusal.Statement.{statement}
 use Rattle.calls.proofs.request.call_refusal.Tie as tie
 

@@ -1,9 +1,9 @@
 -- `calls::request::first_of_four` meets its contract: what 1 and 2 decide, and else what 3 and 4 do.
 use mathlib.Core.Path.{sym, _∙_}
-use Rattle.calls.specs.Step.{length-checks, list-checks}
+use Rattle.rules.specs.Step.{length-checks, list-checks}
 use native.Mathlib.Omega.{arith}
 use borrow.Author.Needs.{needs}
-use Rattle.calls.proofs.Checks.{first-after-none, first-stands}
+use Rattle.rules.proofs.Checks.{first-after-none, first-stands}
 use Rattle.calls.proofs.request.first_of_four.Statement.{statement}
 use Rattle.calls.proofs.request.first_of_four.Tie as tie
 

@@ -9,10 +9,10 @@ use Rattle.line.specs.Line.{at}
 use Rattle.line.specs.Changes.{InForm}
 use Rattle.line.proofs.Numbers.{length-in-form, count-in-form}
 use Rattle.line.proofs.Ordered.{in-form}
-use Rattle.calls.specs.Step.{first}
-use Rattle.calls.specs.Value.{callOf}
-use Rattle.calls.specs.declared.Call.{Call}
-use Rattle.calls.specs.declared.Call.the-variants.{GrantLevel}
+use Rattle.rules.specs.Step.{first}
+use Rattle.rules.specs.Value.{callOf}
+use Rattle.rules.specs.declared.Call.{Call}
+use Rattle.rules.specs.declared.Call.the-variants.{GrantLevel}
 use Rattle.calls.proofs.Calling.{arguments, ready-to-change, sized-to-change}
 use Rattle.admission.specs.Value.{lent}
 use Rattle.granting.proofs.Behind.{settled}

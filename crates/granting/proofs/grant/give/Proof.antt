@@ -7,9 +7,9 @@ use Rattle.table.specs.Table.{nodeAt}
 use Rattle.line.specs.Line.{lineOf, waitingIn, waitingCount}
 use Rattle.line.specs.Changes.{InForm}
 use Rattle.line.proofs.Numbers.{length-standing, length-in-form, count-in-form}
-use Rattle.calls.specs.Call.{Call, tenantOf}
-use Rattle.calls.specs.Step.{first, checks}
-use Rattle.calls.specs.Value.{callOf}
+use Rattle.rules.specs.Call.{Call, tenantOf}
+use Rattle.rules.specs.Step.{first, checks}
+use Rattle.rules.specs.Value.{callOf}
 use Rattle.calls.proofs.Calling.{arguments, same-tenant, ready-to-change, sized-to-change}
 use Rattle.admission.specs.Call.{State}
 use Rattle.admission.specs.Value.{lent}

@@ -8,8 +8,8 @@ use native.Mathlib.Omega.{arith}
 use borrow.Author.Tests.{not-true, not-false}
 use denote.Ref.{now}
 use Rattle.line.specs.Order.{line-in-order?}
-use Rattle.calls.specs.Call.{Call, tenantOf}
-use Rattle.calls.specs.Value.{callOf}
+use Rattle.rules.specs.Call.{Call, tenantOf}
+use Rattle.rules.specs.Value.{callOf}
 use Rattle.calls.proofs.Calling.{same-tenant}
 use Rattle.admission.specs.Call.{State}
 use Rattle.admission.specs.Value.{lent}
