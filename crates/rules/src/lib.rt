@@ -1,5 +1,5 @@
-// The calls of the reserve on a table alone, and what they report, as values. What each call answers and leaves is defined in specs/, and proofs/ has the
-// theorems about it.
+// The calls of the reserve on a table alone, and what they report, as values. What each call answers and leaves is defined in specs/, and
+// proofs/ has the theorems about it.
 ghost use mathlib.Core.Path.{_≡_};
 ghost use mathlib.Core.List.{List};
 ghost use Prim.Native.Nat.{ℕ, _<_};
