@@ -57,6 +57,9 @@ def tried(crate, folder):
 
 
 def main():
+    os.chdir(pathlib.Path(__file__).resolve().parents[2])
+    if len(sys.argv) < 2:
+        sys.exit("usage: tests/must-fail/apart.py CRATE...")
     if not os.path.isdir("target/stamp"):
         sys.exit("nothing is proved here: run rt check first")
     passed = failed = 0

@@ -17,6 +17,7 @@ from mistakes import files_of, log_of, made, mistakes_in, objection, text_of
 def ill_formed(mistakes):
     """What is wrong with the mistakes of one file as they are written."""
     names = collections.Counter(mistake.name for mistake in mistakes)
+    whole = collections.Counter(what.partition(" at ")[0] for mistake in mistakes for what in mistake.breaks)
     broken = collections.Counter(what for mistake in mistakes for what in mistake.breaks)
     for mistake in mistakes:
         if not (mistake.name and mistake.says and len(mistake.breaks) == 1):
@@ -25,7 +26,7 @@ def ill_formed(mistakes):
             yield mistake, "it replaces nothing"
         elif names[mistake.name] > 1:
             yield mistake, "another mistake has its name"
-        elif broken[mistake.breaks[0]] > 1:
+        elif broken[mistake.breaks[0]] > 1 or whole[mistake.breaks[0]] > 1:
             yield mistake, f"another mistake breaks {mistake.breaks[0]} too, so that one of them would be enough"
 
 

@@ -108,7 +108,7 @@ def is_proof_of(path, function):
     """Whether a file is a function's proof: proofs/PATH/NAME/Proof.antt, with +NAME for functions that call themselves or one another."""
     _, *modules, name = function.split("::")
     head, *folders, last = path.split("/")
-    if (head, last) != ("proofs", "Proof.antt") or folders[:-1] != modules:
+    if (head, last) != ("proofs", "Proof.antt") or not folders or folders[:-1] != modules:
         return False
     return folders[-1] == name or (folders[-1].startswith("+") and name in folders[-1].split("+"))
 
@@ -118,7 +118,7 @@ def objection(what, log):
     if what.startswith("fn "):
         function, _, need = what[len("fn "):].partition(" at ")
         said = log.functions.get(function, "")
-        if said.startswith("no proof") and UNFOUND in said:
+        if said.startswith("no proof") and UNFOUND in said and (not need or f"`{need}`" in said):
             return ""
         messages = [message for file, declaration, message in log.errors if is_proof_of(file, function) and need in ("", declaration)]
     else:
