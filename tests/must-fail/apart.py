@@ -1,4 +1,4 @@
-#!/usr/bin/env python3
+#!/usr/bin/env -S python3 -B
 """Whether the mistakes that stand in one must-fail edit are kept apart. Usage: apart.py CRATE..., after `rt check`
 
 Takes each mistake out of its file once, leaves the others in, and asks the prover: what the mistake named must no longer fail for a fact of its own, since

@@ -1,4 +1,4 @@
-#!/usr/bin/env python3
+#!/usr/bin/env -S python3 -B
 """Whether each mistake of the must-fail edits breaks what it names, by the logs that `rt ci` or `rt must-fail` has left.
 
 What a mistake names has to fail for a fact of its own: a function in its own proof, a theorem at its own name. That something cited was refused does not
