@@ -3,9 +3,9 @@
 
 - docs/PROOFS.md lists every public function that has a `requires`, and no other function there.
 - Every mistake of the must-fail edits is named in docs/PROOFS.md, and every one named there exists.
-- Every link in docs/PROOFS.md is defined once under "Links", and every link defined there, by the alphabet, is used.
-- Every link in docs/PROOFS.md leads to a file that declares the name: as a theorem, a definition, a field or a constructor, as a function, a type or a
-  constant, or as a mistake. The parts in front of a name (crate::module::name) are the file's own. A link with a path leads there.
+- Every link in docs/PROOFS.md is defined once under "Links", in alphabetical order, and every link defined there is used.
+- Every link in docs/PROOFS.md leads to a file that declares the name: as a theorem, a definition, a field or a constructor, as a function, a type or
+  a constant, or as a mistake. The parts in front of a name (crate::module::name) are the file's own. A link with a path leads there.
 - Every name in docs/PROOFS.md is a link: what stands in backticks, is one word and is declared in crates/ or is a path; and every source file.
 - No cell of a table in docs/PROOFS.md has more than 300 characters.
 - Every relative link in a document leads to a file.
