@@ -1,10 +1,10 @@
 /*
- * Carries out the planner's moves on real bytes: four pages, four images, and what a grant, a release, a growth and an admit
- * make of them.
+ * Carries out the planner's moves on real bytes: four pages, four images, and what a grant, a repeated one, a release, a growth
+ * and an admit make of them.
  *
  *   cc -Iinclude examples/carry.c target/staticlib/libreserve.a -o carry && ./carry
  *
- * work_list is what a runtime needs; the rest is there to use it.
+ * work_list and started are what a runtime needs; the rest is there to use them.
  */
 #include <stdio.h>
 #include <stdlib.h>
@@ -81,25 +81,11 @@ static void write_pages(uint16_t tenant, unsigned node, unsigned from) {
     }
 }
 
-/* An image has got a block: the others make way, and then its pages are written. */
+/* An image comes: the others make way, and then its pages are written. */
 static void arrive(uint16_t tenant, struct reserve_outcome got) {
     work_list(got.moves);
     write_pages(tenant, got.node, 0);
     show(tenant, "gets", got);
-}
-
-/* An image asks for a block, and waits in line if there is no room. */
-static void start(uint16_t tenant, uint16_t level) {
-    struct reserve_outcome got =
-        reserve_grant_level(HEIGHT, table, sizeof table, line, sizeof line, moves, sizeof moves, tenant, level);
-    if (got.answer == RESERVE_DONE) {
-        arrive(tenant, got);
-    } else if (got.answer == RESERVE_REFUSED_NO_ROOM) {
-        if (reserve_join(HEIGHT, table, sizeof table, line, sizeof line, tenant, level) != RESERVE_DONE) exit(1);
-        printf("tenant %u waits\n", (unsigned)tenant);
-    } else {
-        exit(1);
-    }
 }
 
 /* Lets in whoever waits and fits now, until there is nobody. */
@@ -113,11 +99,56 @@ static void admit_all(void) {
     }
 }
 
+/* What becomes of a start. An image that had a node before the call was there already, and its pages stay as it has made them. One
+ * for which there is no room joins the line, and then whoever fits is let in. */
+static void started(uint16_t tenant, struct reserve_entry had, struct reserve_outcome got, uint16_t level) {
+    if (got.answer == RESERVE_DONE && had.node != 0) {
+        show(tenant, "keeps", got);
+    } else if (got.answer == RESERVE_DONE) {
+        arrive(tenant, got);
+    } else if (got.answer == RESERVE_REFUSED_NO_ROOM) {
+        if (reserve_join(HEIGHT, table, sizeof table, line, sizeof line, tenant, level) != RESERVE_DONE) exit(1);
+        printf("tenant %u waits for level %u\n", (unsigned)tenant, (unsigned)level);
+        admit_all();
+    } else {
+        exit(1);
+    }
+}
+
+/* An image asks for a block of 2^level pages. */
+static void start(uint16_t tenant, uint16_t level) {
+    struct reserve_entry had = reserve_look(table, sizeof table, tenant);
+    struct reserve_outcome got =
+        reserve_grant_level(HEIGHT, table, sizeof table, line, sizeof line, moves, sizeof moves, tenant, level);
+    started(tenant, had, got, level);
+}
+
+/* An image asks for so many pages and a guard page; if it has to wait, then for the level that these take. */
+static void start_with_pages(uint16_t tenant, uint16_t pages) {
+    struct reserve_entry had = reserve_look(table, sizeof table, tenant);
+    struct reserve_outcome got =
+        reserve_grant_pages(HEIGHT, table, sizeof table, line, sizeof line, moves, sizeof moves, tenant, pages);
+    started(tenant, had, got, reserve_level_of_pages(HEIGHT, pages).level);
+}
+
+/* An image changes what stands on its first page, and finds it again whenever it looks. */
+static void put_data(uint16_t tenant, const char *data) {
+    snprintf(bytes_of(reserve_look(table, sizeof table, tenant).node), PAGE_BYTES, "%s", data);
+}
+
+static void expect_data(uint16_t tenant, const char *data) {
+    if (strcmp(bytes_of(reserve_look(table, sizeof table, tenant).node), data) != 0) {
+        printf("tenant %u has lost its data\n", (unsigned)tenant);
+        exit(1);
+    }
+}
+
 /* An image gets a larger block, or a smaller one. Its old pages are free from the start, so what it wants to keep of them waits
  * outside the reserve while the others move, and is set down last. */
 static void resize(uint16_t tenant, uint16_t level) {
-    size_t had = length_of(number(table + 2 * tenant));
-    memcpy(own, bytes_of(number(table + 2 * tenant)), had);
+    unsigned node = reserve_look(table, sizeof table, tenant).node;
+    size_t had = length_of(node);
+    memcpy(own, bytes_of(node), had);
     struct reserve_outcome got = reserve_grow(HEIGHT, table, sizeof table, moves, sizeof moves, tenant, level);
     if (got.answer != RESERVE_DONE) exit(1);
     work_list(got.moves);
@@ -139,12 +170,16 @@ static void stop(uint16_t tenant) {
 int main(void) {
     if (reserve_open(HEIGHT, table, sizeof table, line, sizeof line) != RESERVE_DONE) return 1;
     start(0, 1);
+    put_data(0, "a0");
+    start(0, 1); /* the client has lost the answer, and starts the image again */
+    expect_data(0, "a0");
     start(1, 0);
     start(2, 0);
     stop(1);
     resize(2, 1);
     resize(0, 0);
-    start(3, 1);
+    start_with_pages(3, 1); /* a page and its guard page: level 1, for which there is no room */
     stop(2);
+    expect_data(0, "a0");
     return 0;
 }

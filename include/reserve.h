@@ -23,6 +23,10 @@
  * without a change of any byte. So it may be repeated as often as one likes, on a full reserve too. The moves of the first grant
  * were reported by the first grant alone. A grant to a tenant that holds a block of another level is refused.
  *
+ * The answer to a grant does not say whether the tenant is new, and whoever writes the pages of one that was there overwrites
+ * what it has made of them. So look before the grant: if reserve_look names a node, the tenant is there, and when the grant is
+ * answered 0, its pages are left alone. If it names node 0, the tenant comes with this grant, and its pages are to be written.
+ *
  * A tenant can exchange its block for a larger or a smaller one: it grows, up or down, to a level. Its old block counts as
  * given back, so there is room if the pages of the others and of the new block are no more than the reserve has. If there is no
  * room, it keeps its block.
@@ -31,9 +35,9 @@
  *
  * A tenant for whom there is no room may wait for a level: up to 64 wait, the oldest first. reserve_join puts a tenant at the end
  * of the line, reserve_withdraw takes it out, and reserve_admit grants the first from the front whose block fits, just as a
- * grant of its level would, and says whom. So, after a grant that is answered 10 (RESERVE_REFUSED_NO_ROOM), join; and after each
- * release, growth, join or withdrawal, and after each admit that granted somebody, call reserve_admit, until it names nobody and
- * node 0. That is after at most 64 grants.
+ * grant of its level would, and says whom. So, after a grant that is answered 10 (RESERVE_REFUSED_NO_ROOM), join, with the level that
+ * was asked for, or the one that reserve_level_of_pages names for the pages; and after each release, growth, join or withdrawal, and
+ * after each admit that granted somebody, call reserve_admit, until it names nobody and node 0. That is after at most 64 grants.
  *
  * Nobody is passed without end by smaller images. Each grant that gives a block, by reserve_admit or direct, adds one to the passed
  * count of every older tenant that still waits; a direct grant counts as last in line, so it passes everybody. Behind a tenant
@@ -54,7 +58,8 @@
  *   1. Copy the pages of every staged tenant out of the reserve, to room of your own.
  *   2. Go through the list from its first entry to its last. Copy a tenant that is not staged from its old pages to its new
  *      ones; copy a staged one from that room to its new pages. The staged ones stand behind all others.
- *   3. After a grant, write the newcomer's pages now and not before; after a growth, those of the tenant that has grown.
+ *   3. After a grant or an admit, write the newcomer's pages now and not before; after a growth, those of the tenant that has grown.
+ *      After a grant to a tenant that was there (reserve_look named its node before the call), write nothing.
  *
  * Then every page is free at the moment when it is written. The pages of a released block and the old pages of a tenant that
  * grows are free from the start: what is still wanted of them has to be taken before step 1. A tenant that grows is not in the
@@ -82,7 +87,8 @@
  *
  * All lengths and offsets count bytes. Numbers of two bytes have the low byte first, whatever the machine's own order:
  *
- *   table   RESERVE_TABLE_BYTES bytes: for each tenant, by number, two bytes with its node, or 0 if it holds nothing
+ *   table   RESERVE_TABLE_BYTES bytes: for each tenant, by number, two bytes with its node, or 0 if it holds nothing; reserve_look
+ *           reads them
  *   line    RESERVE_LINE_BYTES bytes, numbers of two bytes: how many wait; then, of each, the oldest first, the tenant, the level
  *           that it waits for and its passed count; then zeros
  *   moves   RESERVE_MOVE_BYTES bytes for each move: the tenant, its old node, its new node, and 1 if it is staged, else 0;
@@ -114,6 +120,7 @@
  *
  *   int main(void) {
  *       if (reserve_open(12, table, sizeof table, line, sizeof line) != RESERVE_DONE) return 1;
+ *       struct reserve_entry had = reserve_look(table, sizeof table, 7);
  *       struct reserve_outcome got = reserve_grant_pages(12, table, sizeof table, line, sizeof line, moves, sizeof moves, 7, 100);
  *       if (got.answer != RESERVE_DONE) return 1;
  *       for (unsigned i = 0; i < got.moves; i++) {
@@ -122,7 +129,8 @@
  *           printf("tenant %u: node %u to %u, %s\n", m[0] + 256u * m[1], m[2] + 256u * m[3], m[4] + 256u * m[5], how);
  *       }
  *       struct reserve_pages has = reserve_node_pages(12, got.node);
- *       printf("tenant 7 has node %u, %u pages from page %u on\n", (unsigned)got.node, (unsigned)has.count, (unsigned)has.first);
+ *       printf("tenant 7 has node %u, %u pages from page %u on: %s\n", (unsigned)got.node, (unsigned)has.count,
+ *              (unsigned)has.first, had.node == 0 ? "write them now" : "they are written");
  *       return 0;
  *   }
  */
@@ -142,9 +150,9 @@ extern "C" {
  * moves stand in an order in which they can be carried out. 4.0: a grant of 0 pages gets 16 pages, and no longer one. 5.0: a
  * tenant can grow or shrink, and a journal has records of that. 6.0: a grant of the level that its tenant holds answers 0 and the
  * tenant's node, and no longer 8. 7.0: there is a line, and a journal has records of joins, admits and withdrawals; opening and
- * grants take the line. */
+ * grants take the line. 7.1 adds reserve_look and reserve_level_of_pages. */
 #define RESERVE_VERSION_MAJOR 7
-#define RESERVE_VERSION_MINOR 0
+#define RESERVE_VERSION_MINOR 1
 #define RESERVE_VERSION (1000 * RESERVE_VERSION_MAJOR + RESERVE_VERSION_MINOR)
 
 /* The greatest height, the number of tenants, the most that wait, how often one that waits may be passed, and what stands for
@@ -217,9 +225,21 @@ struct reserve_outcome {
 /* What an admit reports. */
 struct reserve_admission {
     uint16_t answer; /* enum reserve_answer: 0, 1 to 3 or 7 */
-    uint16_t tenant; /* whom it granted, or RESERVE_NOBODY */
+    uint16_t tenant; /* whom it granted, or RESERVE_NOBODY; a refused admit has RESERVE_NOBODY too, and not 0, which is a tenant */
     uint16_t node;   /* that tenant's node, or 0 */
     uint16_t moves;  /* how many moves stand at the front of the bytes lent for them */
+};
+
+/* What a tenant's entry holds. */
+struct reserve_entry {
+    uint16_t answer; /* enum reserve_answer: 0, 2 or 4 */
+    uint16_t node;   /* the tenant's node, or 0 if it holds nothing */
+};
+
+/* Which level a number of pages takes. */
+struct reserve_level {
+    uint16_t answer; /* enum reserve_answer: 0, 1 or 6 */
+    uint16_t level;  /* the level */
 };
 
 /* Which pages a node covers. */
@@ -290,6 +310,13 @@ struct reserve_admission reserve_admit(uint16_t height, uint8_t *table, size_t t
 /* Takes a tenant out of the line. Answers 0, or 1, 2, 4, 7 or 9. */
 uint16_t reserve_withdraw(uint16_t height, const uint8_t *table, size_t table_length, uint8_t *line, size_t line_length,
                           uint16_t tenant);
+
+/* Looks up a tenant's entry. The table is not tested for its order, so any 8192 bytes are answered. Answers 0, 2 or 4. */
+struct reserve_entry reserve_look(const uint8_t *table, size_t table_length, uint16_t tenant);
+
+/* The level that reserve_grant_pages asks for with so many pages, guard page and images without a size included: a grant of that
+ * level does the same. It is the level to join with when such a grant is answered 10. Answers 0, 1 or 6; 6 never for 0 pages. */
+struct reserve_level reserve_level_of_pages(uint16_t height, uint16_t pages);
 
 /* The pages that a node covers in a reserve of this height. Answers 0; 1; or 7 if the tree has no such node: 0, or above
  * 2^(h+1) - 1. */

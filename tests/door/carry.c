@@ -15,7 +15,7 @@ enum { HISTORIES = 16, CALLS = 1500, UNTOUCHED = 0x77 };
 
 /* ---- the ways to work a list */
 
-enum way { AS_SAID, NOBODY_LIFTED, FROM_THE_END, NEWCOMER_FIRST, RELEASED_LAST, GROWN_FIRST, GROWN_LEFT_LYING };
+enum way { AS_SAID, NOBODY_LIFTED, FROM_THE_END, NEWCOMER_FIRST, RELEASED_LAST, GROWN_FIRST, GROWN_LEFT_LYING, STARTED_AGAIN };
 
 /* the wrong ones; each writes on pages that are not free, and all but one destroy data with that */
 static const struct {
@@ -29,6 +29,7 @@ static const struct {
     {RELEASED_LAST, 0, "a released block is given up last"},
     {GROWN_FIRST, 1, "a growing tenant is set down first"},
     {GROWN_LEFT_LYING, 1, "a tenant that gets a larger block is lifted last"},
+    {STARTED_AGAIN, 1, "a tenant that was there is written like a newcomer"},
 };
 
 /* ---- a reserve with its pages */
@@ -51,7 +52,7 @@ struct box {
     /* what was found */
     unsigned long covered; /* pages written while somebody's data lay there */
     unsigned long spoilt;  /* pages that do not carry their tenant's marks, and tenants that the table has elsewhere */
-    int misshapen;         /* a list that is not as the header says */
+    int misshapen;         /* a list or an entry that is not as the header says */
 };
 
 /* what all right histories together had: growths, admits of somebody, starts that were repeated, and the other calls */
@@ -143,6 +144,12 @@ static void arrive(struct box *box, unsigned tenant, unsigned node) {
     box->mark[tenant] = box->marks_given;
     box->marks_given += 1u << box->height;
     fill_own(box, tenant, node, 0);
+    set_down(box, tenant, node, box->own);
+}
+
+/* its image as it came, which carries no marks, is written over what the tenant has made of it */
+static void start_again(struct box *box, unsigned tenant, unsigned node) {
+    memset(box->own, 0, sizeof box->own);
     set_down(box, tenant, node, box->own);
 }
 
@@ -243,28 +250,36 @@ static int waits(const struct box *box, unsigned tenant) {
     return 0;
 }
 
-/* whether a call that was answered 0 is a start that is repeated: the tenant's data lies there already */
-static int is_repeated(const struct box *box, struct call call) {
+/* whether a call that was answered 0 is a start that is repeated: the tenant had a node before it */
+static int is_repeated(struct call call, struct reserve_entry had) {
     int grants = call.kind == RESERVE_KIND_GRANT_LEVEL || call.kind == RESERVE_KIND_GRANT_PAGES;
-    return grants && box->node[call.tenant] != 0;
+    return grants && had.node != 0;
+}
+
+/* whether an entry tells where the tenant's data lies */
+static int is_true(const struct box *box, struct call call, struct reserve_entry had) {
+    if (call.tenant >= RESERVE_TENANTS) {
+        return had.answer == RESERVE_REFUSED_TENANT && had.node == 0;
+    }
+    return had.answer == RESERVE_DONE && had.node == box->node[call.tenant];
 }
 
 /* A repeated start tells where the data lies, and nobody moves. Whoever is admitted holds nothing before that, and waits no
  * longer; an admit that names nobody tells no node, and nobody moves. */
-static int is_fitting(const struct box *box, struct call call, struct reserve_outcome got) {
+static int is_fitting(const struct box *box, struct call call, struct reserve_entry had, struct reserve_outcome got) {
     if (call.kind == RESERVE_KIND_ADMIT && call.tenant != RESERVE_NOBODY) {
         return call.tenant < RESERVE_TENANTS && box->node[call.tenant] == 0 && got.node != 0 && !waits(box, call.tenant);
     }
     if (call.kind == RESERVE_KIND_ADMIT) {
         return got.node == 0 && got.moves == 0;
     }
-    return !is_repeated(box, call) || (got.node == box->node[call.tenant] && got.moves == 0);
+    return !is_repeated(call, had) || (got.node == box->node[call.tenant] && got.moves == 0);
 }
 
 static unsigned long spoilt_pages(const struct box *box) {
     unsigned long spoilt = 0;
     for (unsigned tenant = 0; tenant < RESERVE_TENANTS; tenant++) {
-        unsigned node = number(box->table + 2 * tenant);
+        unsigned node = reserve_look(box->table, sizeof box->table, (uint16_t)tenant).node;
         spoilt += node != box->node[tenant];
         if (node != 0) {
             struct reserve_pages pages = pages_of(box, node);
@@ -390,13 +405,16 @@ static struct reserve_outcome make_call(struct box *box, struct call *call) {
 }
 
 /* there is nothing to carry out of a start that is repeated, nor where nobody gets a block or gives one up */
-static void carry_out(struct box *box, struct call call, struct reserve_outcome got) {
+static void carry_out(struct box *box, struct call call, struct reserve_entry had, struct reserve_outcome got) {
     struct total *total = &of_others;
     if (got.node == 0) {
         return;
     }
-    if (is_repeated(box, call)) {
+    if (is_repeated(call, had)) {
         total = &of_repeated;
+        if (box->way == STARTED_AGAIN) {
+            start_again(box, call.tenant, got.node);
+        }
     } else if (call.kind == RESERVE_KIND_RELEASE) {
         carry_out_release(box, call.tenant, got);
     } else if (call.kind == RESERVE_KIND_GROW) {
@@ -412,13 +430,15 @@ static void carry_out(struct box *box, struct call call, struct reserve_outcome 
 }
 
 static void make_and_carry_out(struct box *box, struct call call) {
+    struct reserve_entry had = reserve_look(box->table, sizeof box->table, call.tenant);
+    box->misshapen = !is_true(box, call, had);
     struct reserve_outcome got = make_call(box, &call);
     if (got.answer == RESERVE_DONE) {
-        box->misshapen = !is_well_formed(box, call, got.moves) || !is_fitting(box, call, got);
+        box->misshapen |= !is_well_formed(box, call, got.moves) || !is_fitting(box, call, had, got);
         if (box->misshapen) {
             return;
         }
-        carry_out(box, call, got);
+        carry_out(box, call, had, got);
     }
     box->spoilt = spoilt_pages(box);
 }

@@ -3,14 +3,16 @@
 
 Each function and each struct has to be on both sides, with the same parameters or fields: their names, their types and
 their order. A slice `table: &mut [u8]` is `uint8_t *table, size_t table_length` in C. Each constant has to have the number
-that crates/refusal or a definition in specs/ has, and the header has to say what each major version changed. Prints what
-differs; the last line is 'N passed, M failed'.
+that crates/refusal or a definition in specs/ has, and the header has to say what each major version changed. The version is
+that of the manual, and as one number 1000 times the major one plus the minor one. Prints what differs; the last line is
+'N passed, M failed'.
 """
 import glob
 import re
 import sys
 
 HEADER = "include/reserve.h"
+MANUAL = "docs/MANUAL.md"
 WIDTHS = {"uint8_t": "u8", "uint16_t": "u16", "uint32_t": "u32", "uint64_t": "u64", "size_t": "usize"}
 
 # What the header alone says.
@@ -153,6 +155,25 @@ def sizes():
     }
 
 
+def version_of_header():
+    """Major and minor number, and both as one number, as a compiler makes it of the macros."""
+    macros = {name: text_of_macro(name) for name in ("RESERVE_VERSION_MAJOR", "RESERVE_VERSION_MINOR", "RESERVE_VERSION")}
+    together = re.sub(r"RESERVE_VERSION_\w+", lambda name: macros[name[0]], macros["RESERVE_VERSION"])
+    if not re.fullmatch(r"[\d\s()+*]+", together):
+        sys.exit(f"{HEADER}: RESERVE_VERSION is {together}")
+    return int(macros["RESERVE_VERSION_MAJOR"]), int(macros["RESERVE_VERSION_MINOR"]), eval(together)
+
+
+def text_of_macro(name):
+    return re.search(rf"^#define {name} (.+)$", text_of(HEADER), flags=re.M)[1]
+
+
+def version_of_manual():
+    """The same by what the manual says."""
+    major, minor = map(int, re.search(r"\*\*Version\*\*: (\d+)\.(\d+)\b", text_of(MANUAL)).groups())
+    return major, minor, 1000 * major + minor
+
+
 def versions_told():
     """The major versions of which a comment says what they changed, as in '2.0: …'."""
     return [int(major) for major in re.findall(r"\b(\d+)\.0: ", text_of(HEADER))]
@@ -168,8 +189,8 @@ def main():
     exported = {}
     for path in sorted(glob.glob("crates/reserve/src/*.rt")):
         exported.update(source_declarations(text_of(path)))
-    declared = {**header_declarations(header), **header_constants(header), "versions": versions_told()}
-    written = {**exported, **refusals(), **kinds(), **sizes(), "versions": versions()}
+    declared = {**header_declarations(header), **header_constants(header), "versions": versions_told(), "version": version_of_header()}
+    written = {**exported, **refusals(), **kinds(), **sizes(), "versions": versions(), "version": version_of_manual()}
     differing = 0
     names = sorted(declared.keys() | written.keys())
     for name in names:

@@ -8,6 +8,11 @@
 
 #include "reserve.h"
 
+/* as a program says which header it was written for */
+#if RESERVE_VERSION < 7001
+#error "reserve.h of version 7.1 or later is needed"
+#endif
+
 /* ---- counting */
 
 static int passed, failed;
@@ -1149,6 +1154,106 @@ static void three_side_by_side(void) {
     }
 }
 
+/* ---- a tenant's entry */
+
+static int looks(struct lent table, unsigned tenant, unsigned answer, unsigned node) {
+    struct reserve_entry got = reserve_look(table.bytes, table.length, (uint16_t)tenant);
+    return got.answer == answer && got.node == node;
+}
+
+/* an entry of its own for each tenant, which no reserve could have */
+static void looking(void) {
+    static const size_t other_lengths[] = {1, 2, RESERVE_TABLE_BYTES - 2, RESERVE_TABLE_BYTES - 1, RESERVE_TABLE_BYTES + 1,
+                                           RESERVE_TABLE_BYTES + 2};
+    struct lent table = lend(RESERVE_TABLE_BYTES, 0);
+    uint8_t *before;
+    unsigned tenant;
+    size_t i;
+    int right = 1;
+    for (tenant = 0; tenant < RESERVE_TENANTS; tenant++) {
+        put_node(table, tenant, 65535 - 3 * tenant);
+    }
+    before = copy_of(table);
+    for (tenant = 0; tenant <= 65535; tenant++) {
+        right = right && (tenant < RESERVE_TENANTS ? looks(table, tenant, RESERVE_DONE, 65535 - 3 * tenant)
+                                                   : looks(table, tenant, RESERVE_REFUSED_TENANT, 0));
+    }
+    EXPECT(right);
+    EXPECT(memcmp(before, table.bytes, table.length) == 0);
+    free(before);
+    give_back(table);
+    EXPECT(looks(nothing, 0, RESERVE_REFUSED_TABLE_LENGTH, 0) && looks(nothing, 4096, RESERVE_REFUSED_TABLE_LENGTH, 0));
+    for (i = 0; i < sizeof other_lengths / sizeof other_lengths[0]; i++) {
+        table = lend(other_lengths[i], 1);
+        EXPECT(looks(table, 0, RESERVE_REFUSED_TABLE_LENGTH, 0) && looks(table, 4096, RESERVE_REFUSED_TABLE_LENGTH, 0));
+        give_back(table);
+    }
+}
+
+/* before and after each call a tenant's entry has its node, or 0 */
+static void looking_between_calls(void) {
+    struct box box = open_box(2);
+    EXPECT(looks(box.table, 0, RESERVE_DONE, 0));
+    EXPECT(granted(box, grant_level(box, 0, 1), 0, 2, 0) && looks(box.table, 0, RESERVE_DONE, 2));
+    EXPECT(granted(box, grant_level(box, 1, 0), 1, 6, 0) && looks(box.table, 1, RESERVE_DONE, 6));
+    EXPECT(granted(box, grant_level(box, 2, 0), 2, 5, 2));
+    EXPECT(looks(box.table, 0, RESERVE_DONE, 3) && looks(box.table, 1, RESERVE_DONE, 4) && looks(box.table, 2, RESERVE_DONE, 5));
+    EXPECT(refused(grant_level(box, 3, 0), RESERVE_REFUSED_NO_ROOM) && looks(box.table, 3, RESERVE_DONE, 0));
+    EXPECT(release(box, 1).answer == RESERVE_DONE && looks(box.table, 1, RESERVE_DONE, 0));
+    close_box(box);
+}
+
+/* ---- the level of pages */
+
+static int takes_level(unsigned height, unsigned pages, unsigned answer, unsigned level) {
+    struct reserve_level got = reserve_level_of_pages((uint16_t)height, (uint16_t)pages);
+    return got.answer == answer && got.level == level;
+}
+
+/* the smallest level with so many pages and one more, or that of an image that names no size */
+static unsigned smallest_level(unsigned height, unsigned pages) {
+    unsigned level = 0;
+    if (pages == 0) {
+        return height < 4 ? height : 4;
+    }
+    while (1u << level < pages + 1) {
+        level++;
+    }
+    return level;
+}
+
+static void levels_of_pages(void) {
+    unsigned height, pages;
+    int right = 1;
+    for (height = 0; height <= RESERVE_MAX_HEIGHT; height++) {
+        for (pages = 0; pages <= 65535; pages++) {
+            right = right && (pages < 1u << height ? takes_level(height, pages, RESERVE_DONE, smallest_level(height, pages))
+                                                   : takes_level(height, pages, RESERVE_REFUSED_PAGES, 0));
+        }
+    }
+    EXPECT(right);
+    right = 1;
+    for (height = RESERVE_MAX_HEIGHT + 1; height <= 65535; height++) {
+        right = right && takes_level(height, 0, RESERVE_REFUSED_HEIGHT, 0) && takes_level(height, 65535, RESERVE_REFUSED_HEIGHT, 0);
+    }
+    EXPECT(right);
+}
+
+/* a grant by pages that finds no room waits with the level that is told, and is let in on it */
+static void waiting_with_pages(void) {
+    struct box box = open_box(5);
+    EXPECT(granted(box, grant_level(box, 0, 5), 0, 1, 0));
+    EXPECT(refused(grant_pages(box, 1, 5), RESERVE_REFUSED_NO_ROOM));
+    EXPECT(join(box, 1, reserve_level_of_pages(5, 5).level) == RESERVE_DONE);
+    EXPECT(refused(grant_pages(box, 2, 0), RESERVE_REFUSED_NO_ROOM));
+    EXPECT(join(box, 2, reserve_level_of_pages(5, 0).level) == RESERVE_DONE);
+    EXPECT(release(box, 0).answer == RESERVE_DONE);
+    EXPECT(admitted(box, admit(box), 1, 4, 0) && reserve_node_pages(5, 4).count == 8);
+    EXPECT(admitted(box, admit(box), 2, 2, 1) && reserve_node_pages(5, 2).count == 16);
+    EXPECT(granted(box, grant_pages(box, 2, 0), 2, 2, 0));
+    close_box(box);
+}
+
 /* ---- the pages of a node */
 
 static int covers(uint16_t height, unsigned node, unsigned answer, unsigned first, unsigned count) {
@@ -1324,6 +1429,10 @@ int main(void) {
     page_map();
     side_by_side();
     three_side_by_side();
+    looking();
+    looking_between_calls();
+    levels_of_pages();
+    waiting_with_pages();
     node_pages();
     reading();
     kinds();

@@ -43,6 +43,8 @@ static void admits(void) { got.moves = reserve_admit(12, table, sizeof table, li
 static void withdraws(void) { reserve_withdraw(12, table, sizeof table, line, sizeof line, 1000); }
 static void releases(void) { got = reserve_release(12, table, sizeof table, moves, sizeof moves, 1); }
 static void grows(void) { got = reserve_grow(12, table, sizeof table, moves, sizeof moves, grower, 5); }
+static void looks(void) { reserve_look(table, sizeof table, 6); }
+static void names_level(void) { reserve_level_of_pages(12, 100); }
 static void names_pages(void) { reserve_node_pages(12, 4100); }
 static void draws(void) { reserve_draw(12, table, sizeof table, map, sizeof map); }
 static void counts(void) { reserve_count(map, sizeof map); }
@@ -98,7 +100,7 @@ static void fill_for_growth(void) {
         }
     }
     grower = 0;
-    while (grower < tenant && table[2 * grower] + 256 * table[2 * grower + 1] != 2049) {
+    while (grower < tenant && reserve_look(table, sizeof table, grower).node != 2049) {
         grower++;
     }
 }
@@ -133,6 +135,8 @@ int main(void) {
     measure("reserve_withdraw", withdraws, 0);
     fill_for_growth();
     measure("reserve_grow", grows, 7);
+    measure("reserve_look", looks, 0);
+    measure("reserve_level_of_pages", names_level, 0);
     measure("reserve_node_pages", names_pages, 0);
     measure("reserve_draw", draws, 0);
     measure("reserve_count", counts, 0);

@@ -142,6 +142,17 @@ decoded-all s numbers i all e inv =
     ∙ ap₂ (λ (a b : List ℕ). a ++ numbersIn b) (sym (take-all i numbers (omega arith))) (sym (drop-of-length-le s {i = 2 * i} (omega arith)))
     ∙ inv
 
+-- the number at a place of an image is that of its two bytes
+pub number-at : (s : List ℕ) (i : ℕ) → 2 * i + 1 < length s → getD (numbersIn s) i 0 ≡ wordAt s (2 * i)
+unfolding numbersIn
+number-at [] i p = absurd (omega arith)
+number-at (lo ∷ []) i p = absurd (omega arith)
+number-at (lo ∷ hi ∷ s) zero p = refl
+number-at (lo ∷ hi ∷ s) (suc i) p =
+    let two : 2 * suc i ≡ suc (suc (2 * i)) = omega arith in
+    let next = number-at s i (omega arith) in
+    rw (two, add-one (suc (suc (2 * i)))) (rw (add-one (2 * i)) at next)
+
 -- ---- there and back
 
 numbers-of-image : (T : List ℕ) → numbersIn (imageOf T) ≡ T

@@ -1,3 +1,5 @@
 pub mod Reports
 pub mod Behind
 pub mod NodePages
+pub mod Look
+pub mod LevelOfPages

@@ -220,6 +220,18 @@ pub(crate) fn too_many_pages(tree: Tree, pages: u32) -> bool {
     pages >= tree.pages_in_all()
 }
 
+/// The level that a grant of so many pages asks for, unless it is refused for its height or its pages.
+pub fn level_asked(height: u32, pages: u32) -> Result<u32, Refusal> {
+    if height > TALLEST {
+        return Err(Refusal::Height);
+    }
+    let tree = Tree::new(height);
+    if too_many_pages(tree, pages) {
+        return Err(Refusal::Pages);
+    }
+    Ok(level_for_pages(tree, pages))
+}
+
 fn outcome(table: &[Node], line: &[u16], result: Result<Plan, Refusal>) -> Outcome {
     let answer = refusal::number(&result);
     let plan = result.unwrap_or_else(|_| Plan::without_moves(0, table.to_vec()));

@@ -3,9 +3,9 @@
 //! [`Subject`] has one method for all planning calls and one for each other thing that the library can be asked, over numbers
 //! and byte images as on the C side. To put a library behind it, declare its exported functions in an `extern "C"` block and
 //! write the methods as calls of them; [`Subject::call`] calls the one that the request belongs to. Each passes the slices on as
-//! pointer and length and turns the returned numbers into [`Reply`], [`Pages`], [`Count`] or [`Reading`]. Nothing may be checked
-//! or repaired on the way. If a parameter is narrower than the `u32` here, say so in [`Subject::reach`], so that no number is
-//! handed over that the door cannot take.
+//! pointer and length and turns the returned numbers into [`Reply`], [`Entry`], [`Level`], [`Pages`], [`Count`] or [`Reading`].
+//! Nothing may be checked or repaired on the way. If a parameter is narrower than the `u32` here, say so in [`Subject::reach`],
+//! so that no number is handed over that the door cannot take.
 
 use crate::carrying::Move;
 use crate::definitions::Node;
@@ -14,7 +14,7 @@ use crate::line::LINE_NUMBERS;
 use crate::listing;
 use crate::page_map;
 use crate::planner::{self, Lent, Request, FEWEST_ENTRIES, FEWEST_ENTRIES_TO_GROW, TENANTS};
-use crate::refusal::{self, DONE};
+use crate::refusal::{self, Refusal, DONE};
 
 /// The only length of a table's image.
 pub const TABLE_BYTES: usize = 2 * TENANTS;
@@ -63,6 +63,20 @@ impl Reply {
     pub fn admitted(&self) -> Option<u32> {
         (self.tenant != NOBODY).then_some(self.tenant)
     }
+}
+
+/// What a tenant's entry holds.
+#[derive(Clone, Copy, Debug, PartialEq, Eq)]
+pub struct Entry {
+    pub answer: u32,
+    pub node: u32,
+}
+
+/// Which level a number of pages takes.
+#[derive(Clone, Copy, Debug, PartialEq, Eq)]
+pub struct Level {
+    pub answer: u32,
+    pub level: u32,
 }
 
 /// Which pages a node covers.
@@ -141,6 +155,12 @@ pub trait Subject {
     /// withdrawal take no list, and only read the table.
     fn call(&mut self, lent: &mut Images, request: Request) -> Reply;
 
+    /// A tenant's entry in a table, in order or not.
+    fn look(&mut self, table: &[u8], tenant: u32) -> Entry;
+
+    /// The level that a grant of so many pages asks for in a reserve of a height.
+    fn level_of_pages(&mut self, height: u32, pages: u32) -> Level;
+
     /// Which pages a node covers in a reserve of a height; any number may be asked.
     fn node_pages(&mut self, height: u32, node: Node) -> Pages;
 
@@ -168,6 +188,15 @@ pub fn table_image(table: &[Node]) -> Vec<u8> {
 /// entries, which no call takes either.
 pub fn table_from(image: &[u8]) -> Vec<Node> {
     numbers_from(image, TABLE_BYTES)
+}
+
+/// The node of a tenant, or 0, as it stands in a table's image.
+fn entry_in(image: &[u8], tenant: u32) -> Result<Node, Refusal> {
+    if image.len() != TABLE_BYTES {
+        return Err(Refusal::Length);
+    }
+    let entry = image.as_chunks().0.get(tenant as usize);
+    entry.copied().map(u16::from_le_bytes).ok_or(Refusal::Tenant)
 }
 
 /// The image of a line's numbers.
@@ -253,6 +282,22 @@ impl Subject for Oracle {
             tenant: outcome.admitted.map_or(NOBODY, u32::from),
             node: outcome.node.into(),
             moves: outcome.moves.len() as u32,
+        }
+    }
+
+    fn look(&mut self, table: &[u8], tenant: u32) -> Entry {
+        let result = entry_in(table, tenant);
+        Entry {
+            answer: refusal::number(&result),
+            node: result.map_or(0, u32::from),
+        }
+    }
+
+    fn level_of_pages(&mut self, height: u32, pages: u32) -> Level {
+        let result = planner::level_asked(height, pages);
+        Level {
+            answer: refusal::number(&result),
+            level: result.unwrap_or(0),
         }
     }
 

@@ -31,7 +31,7 @@ fn reported(subject: &mut dyn Subject, amounts: &Amounts) -> (Tally, String) {
 #[test]
 fn the_second_planner_agrees_with_itself() {
     let (tally, report) = reported(&mut Oracle, &Amounts::quick(21));
-    assert_eq!(tally, Tally { passed: 22, failed: 0 }, "{report}");
+    assert_eq!(tally, Tally { passed: 24, failed: 0 }, "{report}");
     assert!(
         report.lines().all(|line| line.ends_with("comparisons, seed 21")),
         "{report}"
@@ -79,6 +79,10 @@ found! { Faulty,
     wrong_sizes_are_found_in_histories: Fault::SIZES, ["histories"];
     wrong_maps_are_found: Fault::MAPS, ["maps"];
     wrong_counts_are_found: Fault::COUNTS, ["counts of maps"];
+    wrong_entries_are_found: Fault::ENTRIES, ["entries of tenants"];
+    wrong_entries_are_found_beside_calls: Fault::ENTRIES, ["edges of the arguments", "histories"];
+    wrong_levels_of_pages_are_found: Fault::LEVELS, ["levels of pages"];
+    wrong_levels_of_pages_are_found_beside_calls: Fault::LEVELS, ["edges of the arguments"];
     wrong_pages_of_nodes_are_found: Fault::NODES, ["pages of nodes"];
     wrong_readings_and_writings_are_found: Fault::JOURNALS, ["journal records", "journals"];
     wrong_listings_are_found: Fault::LISTINGS, ["journals"];
@@ -119,7 +123,7 @@ fn no_number_is_handed_over_that_the_door_cannot_take() {
         ..Amounts::quick(25)
     };
     let (tally, report) = reported(&mut Narrow, &amounts);
-    assert_eq!(tally, Tally { passed: 22, failed: 0 }, "{report}");
+    assert_eq!(tally, Tally { passed: 24, failed: 0 }, "{report}");
 }
 
 #[test]

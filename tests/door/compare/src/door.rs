@@ -121,6 +121,22 @@ impl Subject for Door {
         }
     }
 
+    fn look(&mut self, table: &[u8], tenant: u32) -> subject::Entry {
+        let entry = unsafe { reserve_look(table.as_ptr(), table.len(), narrow(tenant)) };
+        subject::Entry {
+            answer: entry.answer.into(),
+            node: entry.node.into(),
+        }
+    }
+
+    fn level_of_pages(&mut self, height: u32, pages: u32) -> subject::Level {
+        let level = unsafe { reserve_level_of_pages(narrow(height), narrow(pages)) };
+        subject::Level {
+            answer: level.answer.into(),
+            level: level.level.into(),
+        }
+    }
+
     fn node_pages(&mut self, height: u32, node: Node) -> subject::Pages {
         let pages = unsafe { reserve_node_pages(narrow(height), node) };
         subject::Pages {

@@ -16,6 +16,18 @@ pub struct Admission {
 }
 
 #[repr(C)]
+pub struct Entry {
+    pub answer: u16,
+    pub node: u16,
+}
+
+#[repr(C)]
+pub struct Level {
+    pub answer: u16,
+    pub level: u16,
+}
+
+#[repr(C)]
 pub struct Pages {
     pub answer: u16,
     pub first: u16,
@@ -110,6 +122,8 @@ extern "C" {
         line_length: usize,
         tenant: u16,
     ) -> u16;
+    pub fn reserve_look(table: *const u8, table_length: usize, tenant: u16) -> Entry;
+    pub fn reserve_level_of_pages(height: u16, pages: u16) -> Level;
     pub fn reserve_node_pages(height: u16, node: u16) -> Pages;
     pub fn reserve_draw(height: u16, table: *const u8, table_length: usize, map: *mut u8, map_length: usize) -> u16;
     pub fn reserve_count(map: *const u8, map_length: usize) -> Counted;

@@ -15,7 +15,7 @@ use oracle::journal::{Reading, Record};
 use oracle::line::MOST_WAITING;
 use oracle::planner::Request;
 use oracle::refusal::DONE;
-use oracle::subject::{line_from, moves_from, Count, Images, Pages, Reach, Reply, Subject};
+use oracle::subject::{line_from, moves_from, Count, Entry, Images, Level, Pages, Reach, Reply, Subject};
 
 const COUNTERS: usize = 1 << 13;
 
@@ -86,6 +86,14 @@ impl<S: Subject> Subject for Watched<S> {
             note_list(lent.height, &moves_from(lent.moves, reply.moves), request);
         }
         reply
+    }
+
+    fn look(&mut self, table: &[u8], tenant: u32) -> Entry {
+        self.0.look(table, tenant)
+    }
+
+    fn level_of_pages(&mut self, height: u32, pages: u32) -> Level {
+        self.0.level_of_pages(height, pages)
     }
 
     fn node_pages(&mut self, height: u32, node: Node) -> Pages {

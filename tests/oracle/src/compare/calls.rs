@@ -5,6 +5,7 @@ use std::fmt;
 use super::lent::{pattern, Lent};
 use super::maps::same_map;
 use super::numbering::every_numbering;
+use super::questions::{same_entry, same_level};
 use super::{Amounts, State};
 use crate::audit::{audit, Seen, MOST_FOR_GRANT};
 use crate::book::{level_wanted, occupied, Book, Told};
@@ -26,8 +27,15 @@ pub struct Same {
     pub(super) moves: Vec<u8>,
 }
 
-/// Asks both planners and compares the reply, the table, the line and the whole list of moves.
+/// Asks both planners and compares the reply, the table, the line and the whole list of moves; and before that what a caller may ask
+/// first: its tenant's entry, and the level of the pages that it names.
 pub fn same_call(subject: &mut dyn Subject, height: u32, state: &State, call: &Call) -> Result<Same, String> {
+    if let Some(tenant) = call.request.tenant() {
+        same_entry(subject, &state.table, tenant)?;
+    }
+    if let Request::GrantPages { pages, .. } = call.request {
+        same_level(subject, height, pages)?;
+    }
     let mut right_state = state.clone();
     let mut right_moves = pattern(call.move_bytes);
     let mut table = Lent::new(&state.table);

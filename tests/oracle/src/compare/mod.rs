@@ -13,6 +13,7 @@ mod lines;
 mod maps;
 mod nodes;
 mod numbering;
+mod questions;
 mod repeats;
 mod reserve;
 mod spoilt;
@@ -136,7 +137,7 @@ pub struct Tally {
 /// One part of the comparison. It gives the number of comparisons, or what it found.
 type Part = fn(&mut dyn Subject, &Amounts, &mut Random) -> Result<usize, String>;
 
-const PARTS: [(&str, Part); 22] = [
+const PARTS: [(&str, Part); 24] = [
     ("edges of the arguments", edges::edges),
     ("every counts vector", calls::every_counts),
     ("histories", calls::histories),
@@ -159,6 +160,8 @@ const PARTS: [(&str, Part); 22] = [
     ("damaged lines", lines::damaged_lines),
     ("orders of refusals", lines::orders_of_refusals),
     ("large images in line", lines::large_images),
+    ("entries of tenants", questions::entries),
+    ("levels of pages", questions::levels),
 ];
 
 /// The random numbers of one part, the same whichever parts ran before.

@@ -3,6 +3,14 @@
 /// The methods in which some planners do not differ from the second planner.
 macro_rules! as_the_oracle {
     () => {
+        fn look(&mut self, table: &[u8], tenant: u32) -> Entry {
+            Oracle.look(table, tenant)
+        }
+
+        fn level_of_pages(&mut self, height: u32, pages: u32) -> Level {
+            Oracle.level_of_pages(height, pages)
+        }
+
         fn count(&mut self, map: &[u8]) -> Count {
             Oracle.count(map)
         }
@@ -36,8 +44,8 @@ use oracle::page_map::MAP_BYTES;
 use oracle::planner::Request;
 use oracle::refusal::{Refusal, DONE};
 use oracle::subject::{
-    fewest_move_bytes, moves_from, put_moves, table_from, table_image, Count, Images, Oracle, Pages, Reach, Reply,
-    Subject, MOVE_BYTES, TABLE_BYTES,
+    fewest_move_bytes, moves_from, put_moves, table_from, table_image, Count, Entry, Images, Level, Oracle, Pages,
+    Reach, Reply, Subject, MOVE_BYTES, TABLE_BYTES,
 };
 use repeats::RepeatFault;
 
@@ -93,6 +101,16 @@ pub enum Fault {
     OnePageForNoSize,
     LevelFourOnEveryHeight,
     GuardPageForNoSize,
+    // A tenant's entry.
+    EntryOfTheNextTenant,
+    EntryWithItsBytesExchanged,
+    EntryPastTheTable,
+    EntryOfAShortTable,
+    // The level that pages are told to take.
+    LevelWithoutGuardPage,
+    LevelOfTheWholeReserve,
+    LevelFourAtEveryHeight,
+    LevelAboveTheTallest,
     // The pages of a node.
     LastPageForTheFirst,
     OnePageTooMany,
@@ -188,6 +206,18 @@ impl Fault {
         Fault::OnePageForNoSize,
         Fault::LevelFourOnEveryHeight,
         Fault::GuardPageForNoSize,
+    ];
+    pub const ENTRIES: [Fault; 4] = [
+        Fault::EntryOfTheNextTenant,
+        Fault::EntryWithItsBytesExchanged,
+        Fault::EntryPastTheTable,
+        Fault::EntryOfAShortTable,
+    ];
+    pub const LEVELS: [Fault; 4] = [
+        Fault::LevelWithoutGuardPage,
+        Fault::LevelOfTheWholeReserve,
+        Fault::LevelFourAtEveryHeight,
+        Fault::LevelAboveTheTallest,
     ];
     pub const NODES: [Fault; 4] = [
         Fault::LastPageForTheFirst,
@@ -696,6 +726,38 @@ impl Subject for Faulty {
         match request {
             Request::Join { .. } | Request::Admit | Request::Withdraw { .. } => Oracle.call(lent, request),
             _ => self.plan(lent, request),
+        }
+    }
+
+    fn look(&mut self, table: &[u8], tenant: u32) -> Entry {
+        let entry = Oracle.look(table, tenant);
+        match self.0 {
+            Fault::EntryOfTheNextTenant if entry.answer == DONE && tenant < 4095 => Oracle.look(table, tenant + 1),
+            Fault::EntryWithItsBytesExchanged => Entry {
+                node: u32::from((entry.node as u16).swap_bytes()),
+                ..entry
+            },
+            Fault::EntryPastTheTable if entry.answer == Refusal::Tenant.number() && tenant == 4096 => {
+                Entry { answer: DONE, ..entry }
+            }
+            Fault::EntryOfAShortTable if table.len() == TABLE_BYTES - 2 && tenant < 4095 => {
+                Oracle.look(&[table, &[0, 0]].concat(), tenant)
+            }
+            _ => entry,
+        }
+    }
+
+    fn level_of_pages(&mut self, height: u32, pages: u32) -> Level {
+        let level = Oracle.level_of_pages(height, pages);
+        let told = |level| Level { answer: DONE, level };
+        match self.0 {
+            Fault::LevelWithoutGuardPage if level.answer == DONE && pages > 0 => {
+                told(pages.next_power_of_two().ilog2())
+            }
+            Fault::LevelOfTheWholeReserve if height <= 12 && pages == 1 << height => told(height),
+            Fault::LevelFourAtEveryHeight if height <= 12 && pages == 0 => told(4),
+            Fault::LevelAboveTheTallest if height == 13 => Oracle.level_of_pages(12, pages),
+            _ => level,
         }
     }
 

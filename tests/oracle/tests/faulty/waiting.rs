@@ -11,8 +11,8 @@ use oracle::line::{self, bars, pass, place_of, Waiting, MOST_PASSED, MOST_WAITIN
 use oracle::planner::Request;
 use oracle::refusal::{Refusal, DONE};
 use oracle::subject::{
-    fewest_move_bytes, line_from, line_image, table_from, Count, Images, Oracle, Pages, Reply, Subject, LINE_BYTES,
-    NOBODY,
+    fewest_move_bytes, line_from, line_image, table_from, Count, Entry, Images, Level, Oracle, Pages, Reply, Subject,
+    LINE_BYTES, NOBODY,
 };
 
 use super::growths::pages_held;
