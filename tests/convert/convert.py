@@ -5,9 +5,11 @@ its own, in which nothing else may be made, changed or removed. A check that fai
 'N passed, M failed'.
 """
 
+import enum
 import os
 import pathlib
 import random
+import stat
 import subprocess
 import sys
 import tempfile
@@ -21,7 +23,19 @@ USAGE = b"""usage: convert_pages [OLD [NEW]]
 Converts the journal in OLD into NEW: each grant of 0 pages becomes a grant of level 0.
 Without OLD, or if it is -, it reads standard input; without NEW, or if it is -, it writes to standard output.
 """
-FOLDER = object()  # what stands for a folder among files; a text stands for a link to that name
+
+
+class Special(enum.Enum):
+    """What has no bytes, among files; a text stands for a link to that name."""
+
+    FOLDER = stat.S_IFDIR
+    FIFO = stat.S_IFIFO
+    SOCKET = stat.S_IFSOCK
+    DEVICE = stat.S_IFCHR
+
+
+FOLDER = Special.FOLDER
+NULL = os.makedev(1, 3)  # the device of /dev/null
 
 
 # Journals
@@ -76,6 +90,8 @@ def fill(folder, files):
         path = folder / name
         if what is FOLDER:
             path.mkdir()
+        elif isinstance(what, Special):
+            os.mknod(path, what.value | 0o600, NULL)
         elif isinstance(what, str):
             path.symlink_to(what)
         else:
@@ -86,15 +102,16 @@ def contents(folder):
     """Everything below a folder, as it was given to `fill`."""
 
     def what_is(path):
-        if path.is_symlink():
+        kind = stat.S_IFMT(path.lstat().st_mode)
+        if kind == stat.S_IFLNK:
             return os.readlink(path)
-        return FOLDER if path.is_dir() else path.read_bytes()
+        return path.read_bytes() if kind == stat.S_IFREG else Special(kind)
 
     return {str(path.relative_to(folder)): what_is(path) for path in sorted(folder.rglob("*"))}
 
 
 def told(files):
-    shorten = lambda what: "folder" if what is FOLDER else what if len(what) < 80 else f"{len(what)} bytes"
+    shorten = lambda what: what.name.lower() if isinstance(what, Special) else what if len(what) < 80 else f"{len(what)} bytes"
     return {name: shorten(what) for name, what in files.items()}
 
 
@@ -126,8 +143,6 @@ def check_converted():
     check_files("a file that was there", ("old", "new"), {"old": OLD, "new": OLD * 3}, {"old": OLD, "new": NEW})
     check_files("a file onto itself", ("journal", "journal"), {"journal": OLD}, {"journal": NEW})
     check_files("a file onto itself by another name", ("journal", "./journal"), {"journal": OLD}, {"journal": NEW})
-    check_files("a link in the place of the new file", ("old", "new"), {"old": OLD, "new": "old"}, {"old": OLD, "new": NEW})
-    check_files("a link to the old file", ("link", "link"), {"old": OLD, "link": "old"}, {"old": OLD, "link": NEW})
     files = {"old": OLD, "sub": FOLDER}
     check_files("a file in a folder", ("old", "sub/new"), files, {**files, "sub/new": NEW})
     check_files("files whose names are -", ("./-", "./-"), {"-": OLD}, {"-": NEW})
@@ -230,12 +245,62 @@ def check_no_file():
         ("a folder", "new", {"new": FOLDER}, "new", "Is a directory"),
         ("a folder with a file", "new", {"new": FOLDER, "new/file": b"x"}, "new", "Is a directory"),
         ("a folder, by its name with a slash", "new/", {"new": FOLDER}, "new/", "Not a directory"),
+        ("a link to a folder, by its name with a slash", "new/", {"new": "sub", "sub": FOLDER}, "new/", "Not a directory"),
         ("a name with no bytes", "", {}, "", "No such file or directory"),
         ("a file in a missing folder", "missing/new", {}, "missing/new.part", "No such file or directory"),
         ("a file in what is no folder", "old/new", {}, "old/new.part", "Not a directory"),
         ("a name that is too long", "n" * 251, {}, "n" * 251 + ".part", "File name too long"),
     ):
         check_unchanged(f"{name} as new file", ("old", new), {**old, **files}, cannot_write(thing, reason))
+
+
+def check_links():
+    """A link in the place of the new file: it stays, and what it stands for is as it was. No part is made."""
+    reason = "it is a symbolic link"
+    check_unchanged("a link to the old file, onto itself", ("link", "link"), {"old": OLD, "link": "old"}, cannot_write("link", reason))
+    for name, files in (
+        ("a link to the old file", {"new": "old"}),
+        ("a link to another file", {"new": "file", "file": NEW}),
+        ("a link to a link", {"new": "link", "link": "old"}),
+        ("a link to itself", {"new": "new"}),
+        ("a link to nothing", {"new": "nowhere"}),
+        ("a link to a folder", {"new": "sub", "sub": FOLDER}),
+        ("a link to /dev/null", {"new": "/dev/null"}),
+        ("a link beside a part", {"new": "old", "new.part": b"somebody else's"}),
+    ):
+        check_unchanged(f"{name} as new file", ("old", "new"), {"old": OLD, **files}, cannot_write("new", reason))
+    files = {"old": OLD, "new": "old", "sub": FOLDER, "sub/new": "../old", "by": "sub"}
+    for name, new in ("in a folder", "sub/new"), ("in a linked folder", "by/new"), ("by as long a name as there can be", "./" * 2046 + "new"):
+        check_unchanged(f"a link {name} as new file", ("old", new), files, cannot_write(new, reason))
+    error = b"convert_pages: cannot convert old: refusal 11 at offset 0\n"
+    check_unchanged("a refused journal for a link", ("old", "new"), {"old": b"", "new": "old"}, error)
+    # only the last part of the name is looked at
+    files = {"old": OLD, "sub": FOLDER, "by": "sub", "link": "old"}
+    check_files("a file in a linked folder", ("old", "by/new"), files, {**files, "sub/new": NEW})
+    check_files("a link as old file", ("link", "new"), files, {**files, "new": NEW})
+
+
+def check_special_files():
+    """The same for what is no regular file."""
+    reason = "it is no regular file"
+    for name, what in ("a FIFO", Special.FIFO), ("a socket", Special.SOCKET):
+        check_unchanged(f"{name} as new file", ("old", "new"), {"old": OLD, "new": what}, cannot_write("new", reason))
+    if may_make_devices():
+        check_unchanged("a device as new file", ("old", "new"), {"old": OLD, "new": Special.DEVICE}, cannot_write("new", reason))
+    else:
+        check_unchanged("/dev/null as new file", ("old", "/dev/null"), {"old": OLD}, cannot_write("/dev/null", reason))
+        with check("/dev/null after it"):
+            found = os.lstat("/dev/null")
+            assert stat.S_ISCHR(found.st_mode) and found.st_rdev == NULL, oct(found.st_mode)
+
+
+def may_make_devices():
+    with tempfile.TemporaryDirectory() as path:
+        try:
+            fill(pathlib.Path(path), {"device": Special.DEVICE})
+        except PermissionError:
+            return False
+        return True
 
 
 def check_no_old_file():
@@ -304,6 +369,8 @@ check_examples()
 check_refused()
 check_parts()
 check_no_file()
+check_links()
+check_special_files()
 check_no_old_file()
 check_failing_calls()
 check_arguments()

@@ -1,10 +1,29 @@
 // Writing a file whole: the bytes go into a new file beside it, which takes its name once all of them are there.
 use crate::message::complain;
 use crate::whole::write_all;
+use file_kinds::FileKind;
 
 // Writes all of the bytes to the file of that name, which need not be there; or says on standard error why they cannot be written, and leaves what
-// has the name as it was.
+// has the name as it was. A link or a special file is not written: the new file would take its place, and what it stands for would stay as it was.
 pub fn write_file(program: &[u8], name: &[u8], bytes: &[u8]) {
+    let kind = file_kinds::kind_at(name);
+    match kind {
+        FileKind::Link => refuse_name(program, name, b": it is a symbolic link\n"),
+        FileKind::Other => refuse_name(program, name, b": it is no regular file\n"),
+        _ => write_beside(program, name, bytes),
+    }
+}
+
+// Says why nothing is written under that name.
+fn refuse_name(program: &[u8], name: &[u8], reason: &[u8]) {
+    let mut text = [0u8; 8192];
+    let n = words::message(program, b"write", name, &mut text);
+    write_all(libc::STDERR_FILENO, &text[..n]);
+    write_all(libc::STDERR_FILENO, reason);
+}
+
+// Writes the bytes to a file beside the name, which then takes it.
+fn write_beside(program: &[u8], name: &[u8], bytes: &[u8]) {
     // A name that did not fit would be cut, and could be that of another file. No path is as long as this.
     let mut text = [0u8; 8192];
     let n = words::part_name(name, &mut text);

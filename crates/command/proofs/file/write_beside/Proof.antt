@@ -1,9 +1,9 @@
--- `write_file` is safe: the name of the part lies within the text.
+-- `write_beside` is safe: the name of the part lies within the text.
 use mathlib.Core.Path.{sym}
 use lib.Seq.{length-take-le}
 use borrow.Author.Needs.{needs}
-use Rattle.command.proofs.file.write_file.Statement.{statement}
-use Rattle.command.proofs.file.write_file.Tie as tie
+use Rattle.command.proofs.file.write_beside.Statement.{statement}
+use Rattle.command.proofs.file.write_beside.Tie as tie
 
 slice-aggregate-part-name : tie.Need-slice-aggregate-part-name
 slice-aggregate-part-name c = search needs
@@ -23,8 +23,8 @@ write-through-requires c κs = search needs
 returns : tie.Need-returns
 returns c = search needs
 
-pub write-file-spec : {M : Type 1} → statement M
-write-file-spec =
+pub write-beside-spec : {M : Type 1} → statement M
+write-beside-spec =
     tie.close
     (tie.spec
     slice-aggregate-part-name
