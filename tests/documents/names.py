@@ -10,6 +10,7 @@
 - No cell of a table in docs/PROOFS.md has more than 300 characters.
 - Every relative link in a document leads to a file.
 - Every listing that stands in a document is one that the program writes in a test: that of an example, or of its own sample.
+- Every line of the program `layouts` that stands in the manual is one that it prints.
 
 Prints what differs; the last line is 'N passed, M failed'.
 """
@@ -168,11 +169,18 @@ def other_listings():
     return wrong
 
 
+def other_layouts():
+    printed = text_of("crates/layouts/stdout").splitlines()
+    quoted = re.findall(r"`(\d+: [^`]*)`", text_of("docs/MANUAL.md"))
+    wrong = [f"docs/MANUAL.md: layouts does not print {line}" for line in quoted if line not in printed]
+    return wrong if quoted else ["docs/MANUAL.md: no line of layouts"]
+
+
 def main():
     proofs = text_of("docs/PROOFS.md")
     passed = failed = 0
     for differing in (same_requires(proofs), same_mistakes(proofs), differing_links(proofs), wrong_targets(proofs), unlinked_names(proofs),
-                      long_cells(proofs), dead_links(), other_listings()):
+                      long_cells(proofs), dead_links(), other_listings(), other_layouts()):
         passed += not differing
         failed += bool(differing)
         for line in differing:

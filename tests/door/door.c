@@ -1154,6 +1154,57 @@ static void three_side_by_side(void) {
     }
 }
 
+/* ---- what the manual says of keeping a journal, a table and a line */
+
+/* granted in another order, the same holdings occupy the same places, and not with the same tenants */
+static void in_another_order(void) {
+    struct box one = open_box(2), other = open_box(2);
+    EXPECT(granted(one, grant_level(one, 0, 0), 0, 4, 0) && granted(one, grant_level(one, 1, 0), 1, 5, 0));
+    EXPECT(granted(other, grant_level(other, 1, 0), 1, 4, 0) && granted(other, grant_level(other, 0, 0), 0, 5, 0));
+    EXPECT(memcmp(one.table.bytes, other.table.bytes, RESERVE_TABLE_BYTES) != 0);
+    EXPECT(grant_level(one, 2, 1).node == grant_level(other, 2, 1).node);
+    close_box(one);
+    close_box(other);
+}
+
+/* a table from before an admit beside the line from after it is taken, and the tenant is in neither; the other way round it is 7 */
+static void of_two_moments(void) {
+    struct box box = open_box(2);
+    struct kept before, after;
+    EXPECT(join(box, 9, 1) == RESERVE_DONE);
+    before = keep(box);
+    EXPECT(admitted(box, admit(box), 9, 2, 0));
+    after = keep(box);
+    memcpy(box.table.bytes, before.table, RESERVE_TABLE_BYTES);
+    EXPECT(admits_nobody(box, RESERVE_DONE) && reserve_look(box.table.bytes, box.table.length, 9).node == 0);
+    memcpy(box.table.bytes, after.table, RESERVE_TABLE_BYTES);
+    memcpy(box.line.bytes, before.line, RESERVE_LINE_BYTES);
+    EXPECT(admits_nobody(box, RESERVE_REFUSED_NOT_IN_ORDER));
+    forget(before);
+    forget(after);
+    give_back_box(box);
+}
+
+/* so many records of a length go into a journal behind its open, and no more */
+static int go_in(size_t length, size_t records) {
+    uint8_t out[RESERVE_RECORD_BYTES];
+    size_t room = RESERVE_JOURNAL_BYTES - reserve_write_open(12, out, sizeof out).length;
+    return length * records <= room && length * (records + 1) > room;
+}
+
+static void records_in_a_journal(void) {
+    uint8_t out[RESERVE_RECORD_BYTES];
+    size_t by_pages = reserve_write_grant_pages(1, 2, out, sizeof out).length;
+    size_t stop = reserve_write_release(1, out, sizeof out).length;
+    size_t admits = reserve_write_admit(out, sizeof out).length;
+    EXPECT(go_in(reserve_write_grant_level(1, 2, out, sizeof out).length, 16383));
+    EXPECT(go_in(reserve_write_grow(1, 2, out, sizeof out).length, 16383));
+    EXPECT(go_in(reserve_write_join(1, 2, out, sizeof out).length, 16383));
+    EXPECT(go_in(by_pages, 13106));
+    EXPECT(go_in(stop, 21844) && go_in(reserve_write_withdraw(1, out, sizeof out).length, 21844));
+    EXPECT(go_in(by_pages + stop + admits, 7281));
+}
+
 /* ---- a tenant's entry */
 
 static int looks(struct lent table, unsigned tenant, unsigned answer, unsigned node) {
@@ -1429,6 +1480,9 @@ int main(void) {
     page_map();
     side_by_side();
     three_side_by_side();
+    in_another_order();
+    of_two_moments();
+    records_in_a_journal();
     looking();
     looking_between_calls();
     levels_of_pages();
