@@ -61,8 +61,8 @@ pub fn of_map_times(maps: &[Row], figures: &[Figures]) -> Option<Goal> {
     Goal::worst("count ÷ count byte by byte, time", 1.0, ratios)
 }
 
-/// That a map is counted in at most half the instructions that it takes byte by byte, for the worst map. Neither that nor
-/// numbers that are counted one by one would meet it.
+/// That a map is counted in at most 0.45 of the instructions that it takes byte by byte, for the worst map. Neither that nor
+/// numbers that are counted one by one would meet it, nor would a count of 16 bits at a time.
 pub fn of_map_counts(maps: &[Row], counts: &[Count]) -> Option<Goal> {
     let ratios = maps.iter().enumerate().flat_map(|(place, row)| {
         let [library, bytewise] = ["library", "bytewise"].map(|who| of_row(counts, "map", place, who));
@@ -70,7 +70,7 @@ pub fn of_map_counts(maps: &[Row], counts: &[Count]) -> Option<Goal> {
             .zip(bytewise)
             .map(|(library, bytewise)| (library / bytewise, row.name()))
     });
-    Goal::worst("count ÷ count byte by byte, instructions", 0.5, ratios)
+    Goal::worst("count ÷ count byte by byte, instructions", 0.45, ratios)
 }
 
 /// The goals that instructions decide: by call and height against the same algorithm in Rust and against the bare

@@ -11,6 +11,7 @@
 - Every relative link in a document leads to a file.
 - Every listing that stands in a document is one that the program writes in a test: that of an example, or of its own sample.
 - Every line of the program `layouts` that stands in the manual is one that it prints.
+- The summary at the front of Demand.antt names what is declared there, and every promise of one box and of two.
 
 Prints what differs; the last line is 'N passed, M failed'.
 """
@@ -20,6 +21,7 @@ import os
 import re
 import sys
 
+DEMAND = "crates/boxes/specs/Demand.antt"
 REQUIRES_HEADING = "## Inner functions that ask something of their caller"
 LINK = re.compile(r"\[([^][]+)\](?:\[([^][]+)\])?")
 LINK_DEFINITION = re.compile(r"^\[([^][]+)\]: (\S+)$", flags=re.M)
@@ -176,11 +178,21 @@ def other_layouts():
     return wrong if quoted else ["docs/MANUAL.md: no line of layouts"]
 
 
+def other_promises():
+    """What the summary of demand 3 names and is not there, or is there and not named. Fields of `Line` are named by the first and the last."""
+    text = text_of(DEMAND)
+    named = set(re.findall(r"`([\w-]+)`", text[:text.index("\nuse ")]))
+    fields = {name for record in ("Box", "Boxes") for name in
+              re.findall(r"^  pub ([\w-]+) :", re.search(rf"^pub record {record} .*?\n\n", text, flags=re.M | re.S)[0], flags=re.M)}
+    return [f"{DEMAND} does not declare {name}" for name in sorted(named - declared(DEMAND))] + [
+        f"the summary of {DEMAND} does not name {name}" for name in sorted(fields - named - {"one", "two", "line"})]
+
+
 def main():
     proofs = text_of("docs/PROOFS.md")
     passed = failed = 0
     for differing in (same_requires(proofs), same_mistakes(proofs), differing_links(proofs), wrong_targets(proofs), unlinked_names(proofs),
-                      long_cells(proofs), dead_links(), other_listings(), other_layouts()):
+                      long_cells(proofs), dead_links(), other_listings(), other_layouts(), other_promises()):
         passed += not differing
         failed += bool(differing)
         for line in differing:

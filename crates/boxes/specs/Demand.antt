@@ -1,5 +1,19 @@
 -- Demand 3 and document 01's list under "Histories" for reserves with a line, with what document 02, L7, promises to those who wait, as one statement
--- about two whole histories of one height.
+-- about two whole histories of one height. `Demand3`, near the end, is all of these, of both boxes, by name in the papers' order:
+--
+--   01  who has a level in the book has a node of that level, everybody else 0: `agrees`
+--       the places are the one legal and safe set of the held sizes: `within`, `legal`, `safe`, `sized`, `only`
+--       a grant is answered 8, or 10 exactly where there is no legal placement, or 0: `holder-asks`, `nobody-in-line`
+--       a release is answered 9 or 0: `other-releases`, `holder-releases`; what is not valid, the first of 3 to 6: `not-valid`
+--       moves are the tenants whose node changed, at most three or four of them: `moves`, `grant-moves`, `release-moves`
+--   00  two boxes with equal holdings occupy the same places and have the same fate: `same-places`, `same-fate-unlined`, `same-fate`
+--   L5  growths: `other-grows`, `holder-grows`, `same-level`, `growth-moves`, `same-growth`
+--   L6  repeated starts: `holder-repeats`, `book-stays`, `gave`
+--   L7  the line is in order and true, and nobody is passed more than eight times: `in-order`, `true-line`, `seldom`; who joins, withdraws and is
+--       admitted: from `holder-joins` to `end`; the other calls beside it: `waiting-asks`, `other-asks`, `releases-leave-line`,
+--       `growths-leave-line`, `admit-moves`
+--
+-- `SafeToRepeat`, at the end, says of whole histories that starts may be repeated (L6).
 use mathlib.Core.Path.{_≡_}
 use mathlib.Core.Bool.{Bool, true, false, cond}
 use mathlib.Core.List.{List, [], _∷_}
