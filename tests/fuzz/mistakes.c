@@ -21,6 +21,8 @@ struct reserve_admission __real_reserve_admit(uint16_t height, uint8_t *table, s
                                               size_t line_length, uint8_t *moves, size_t moves_length);
 uint16_t __real_reserve_withdraw(uint16_t height, const uint8_t *table, size_t table_length, uint8_t *line, size_t line_length,
                                  uint16_t tenant);
+struct reserve_entry __real_reserve_look(const uint8_t *table, size_t table_length, uint16_t tenant);
+struct reserve_level __real_reserve_level_of_pages(uint16_t height, uint16_t pages);
 uint16_t __real_reserve_draw(uint16_t height, const uint8_t *table, size_t table_length, uint8_t *map, size_t map_length);
 struct reserve_counted __real_reserve_count(const uint8_t *map, size_t map_length);
 struct reserve_reading __real_reserve_read(const uint8_t *journal, size_t journal_length, size_t offset);
@@ -52,8 +54,7 @@ struct reserve_outcome __wrap_reserve_release(uint16_t height, uint8_t *table, s
 
 /* The node in a tenant's entry; 0 if there is none, or no such tenant. */
 static int node_in(const uint8_t *table, size_t table_length, uint16_t tenant) {
-    int in_table = table_length == RESERVE_TABLE_BYTES && tenant < RESERVE_TENANTS;
-    return in_table ? number(table + 2 * tenant) : 0;
+    return __real_reserve_look(table, table_length, tenant).node;
 }
 
 /* The bytes of a line's count of how many wait, of those who wait, and of the number of passes of one of them. */
@@ -174,6 +175,20 @@ struct reserve_outcome __wrap_reserve_grow(uint16_t height, uint8_t *table, size
         got.answer = RESERVE_DONE;
         got.node = (uint16_t)node;
     }
+    return got;
+}
+
+/* 21: of a tenant on one of the last pages of a reserve of height 12 the page beside its own is told. */
+struct reserve_entry __wrap_reserve_look(const uint8_t *table, size_t table_length, uint16_t tenant) {
+    struct reserve_entry got = __real_reserve_look(table, table_length, tenant);
+    if (MISTAKE == 21 && got.answer == RESERVE_DONE && got.node >= 8000 && got.node < 8192) got.node ^= 1;
+    return got;
+}
+
+/* 22: more than half of a reserve of height 11 is told to go into a half. */
+struct reserve_level __wrap_reserve_level_of_pages(uint16_t height, uint16_t pages) {
+    struct reserve_level got = __real_reserve_level_of_pages(height, pages);
+    if (MISTAKE == 22 && height == 11 && got.level == 11) got.level = 10;
     return got;
 }
 
