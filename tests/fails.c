@@ -1,6 +1,7 @@
 /*
  * Calls that fail late, as those of a file system may that finds only then that the bytes have no room. For LD_PRELOAD; the variable
- * FAILS names the call: close (of what was written, and not of standard error), fsync or rename. All others do their work.
+ * FAILS names the call: close (of what was written, and not of standard error), fsync or rename; or read or write, of which the first so
+ * many as INTERRUPTIONS says are interrupted by a signal, but for those to standard error. All others do their work.
  */
 #define _GNU_SOURCE
 #include <errno.h>
@@ -21,9 +22,23 @@ static int was_written(int descriptor) {
   return descriptor != STDERR_FILENO && flags >= 0 && (flags & O_ACCMODE) != O_RDONLY;
 }
 
+static int is_interrupted(const char *call, int descriptor) {
+  static long interrupted = 0;
+  const char *interruptions = getenv("INTERRUPTIONS");
+  return descriptor != STDERR_FILENO && fails(call) && interruptions != NULL && interrupted++ < atol(interruptions);
+}
+
 static int with_error(int error) {
   errno = error;
   return -1;
+}
+
+ssize_t read(int descriptor, void *bytes, size_t size) {
+  return is_interrupted("read", descriptor) ? with_error(EINTR) : syscall(SYS_read, descriptor, bytes, size);
+}
+
+ssize_t write(int descriptor, const void *bytes, size_t size) {
+  return is_interrupted("write", descriptor) ? with_error(EINTR) : syscall(SYS_write, descriptor, bytes, size);
 }
 
 int close(int descriptor) {

@@ -15,6 +15,22 @@ import time
 import traceback
 
 PATIENCE = 60  # seconds after which a program that does not end is stopped, and its check fails
+MOST_INTERRUPTIONS = 1000  # of the reads of a journal, or of the writes of a block, that a program puts up with
+
+# What the refusals that end a listing mean.
+REASONS = {
+    1: "the height is above 12",
+    11: "the journal is empty, or its first record is no open",
+    12: "a record of unknown kind",
+    13: "the journal ends inside a record",
+    14: "an open record that is not the first",
+    16: "the journal has more than 65,536 bytes",
+}
+
+
+def why(number, offset):
+    """Why a journal is refused."""
+    return f"{REASONS[number]}, refusal {number} at offset {offset}"
 
 
 # Journals
@@ -52,11 +68,12 @@ def withdrawal(tenant):
 
 
 class Program:
-    """A program under test. Its own name is in what it says on standard error."""
+    """A program under test. Its own name is in what it says on standard error, and how it is used where its arguments are wrong."""
 
-    def __init__(self, path):
+    def __init__(self, path, usage):
         self.path = os.path.abspath(path)
         self.name = os.path.basename(path).encode()
+        self.usage = usage
 
     def start(self, *arguments, **how):
         how.setdefault("stdin", subprocess.DEVNULL)
@@ -66,6 +83,10 @@ class Program:
     def cannot(self, deed, thing, reason):
         """What it says if it could not read or write something."""
         return b"%s: cannot %s %s: %s\n" % (self.name, deed.encode(), os.fsencode(thing), reason.encode())
+
+    def objects(self, fault, word):
+        """What it says to an argument that it does not take."""
+        return b"%s: %s %s\n" % (self.name, fault.encode(), os.fsencode(word)) + self.usage
 
 
 def end(program):
@@ -279,6 +300,22 @@ def check_interrupted_writing(program, source, wanted, middle):
         ends_with(running, b"", b"")
 
 
+def interrupted(call, fails, times):
+    """The first reads or writes are interrupted so many times; `fails` is the library fails.c."""
+    return {"env": {"LD_PRELOAD": fails, "FAILS": call, "INTERRUPTIONS": str(times)}}
+
+
+def check_most_interruptions(program, source, wanted, fails):
+    """As many interruptions in a row as a program puts up with, and one more."""
+    most = MOST_INTERRUPTIONS
+    for call, thing in ("read", "standard input"), ("write", "standard output"):
+        with check(f"a {call} that is interrupted {most} times"), source.open("rb") as file:
+            ends_with(program.start(stdin=file, **interrupted(call, fails, most)), wanted, b"")
+        with check(f"a {call} that is interrupted {most + 1} times"), source.open("rb") as file:
+            error = program.cannot(call, thing, "Interrupted system call")
+            ends_with(program.start(stdin=file, **interrupted(call, fails, most + 1)), b"", error)
+
+
 def check_streams(program, folder, journal, wanted, fails, sizes, middle):
     """All of these for one journal in a folder: writing fails at each of the sizes, or is disturbed when so many bytes in the middle were read."""
     source = folder / "source"
@@ -288,3 +325,4 @@ def check_streams(program, folder, journal, wanted, fails, sizes, middle):
     check_no_writing(program, source, wanted, fails, sizes)
     check_leaving_reader(program, source, wanted, middle)
     check_interrupted_writing(program, source, wanted, middle)
+    check_most_interruptions(program, source, wanted, fails)

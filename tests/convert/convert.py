@@ -9,19 +9,27 @@ import enum
 import os
 import pathlib
 import random
+import re
 import stat
 import subprocess
 import sys
 import tempfile
 
-from programs import Program, admit, check, check_streams, conclude, ends_with, feed, grant, grant_pages, growth, join, limited, release, sockets
-from programs import withdrawal
+from programs import MOST_INTERRUPTIONS, Program, admit, check, check_streams, conclude, ends_with, feed, grant, grant_pages, growth, interrupted
+from programs import join, limited, release, sockets, why, withdrawal
 
 CONVERT_PAGES, ORACLE, FAILS, EXAMPLES = (os.path.abspath(path) for path in sys.argv[1:])
-PROGRAM = Program(CONVERT_PAGES)
-USAGE = b"""usage: convert_pages [OLD [NEW]]
-Converts the journal in OLD into NEW: each grant of 0 pages becomes a grant of level 0.
-Without OLD, or if it is -, it reads standard input; without NEW, or if it is -, it writes to standard output.
+PROGRAM = Program(CONVERT_PAGES, b"usage: convert_pages [OLD [NEW]]\nconvert_pages --help says more.\n")
+HELP = b"""usage: convert_pages [OLD [NEW]]
+Converts the journal in OLD into NEW: each grant of 0 pages becomes a grant of
+level 0, and every other record is copied. It is for journals from before
+version 4.0 of the header, in which 0 pages meant one page; now they mean 16.
+Without OLD, or if it is -, it reads standard input; without NEW, or if it is -,
+it writes to standard output. A name that begins with - comes after --.
+The whole journal is converted, or nothing. NEW is written as NEW.part, which
+takes the name NEW when all of it is on the disk. A NEW.part that is there
+before is left as it is, and nothing is converted: remove it if no conversion is
+at work. "Old journals" in docs/MANUAL.md has the rest.
 """
 
 
@@ -36,6 +44,7 @@ class Special(enum.Enum):
 
 FOLDER = Special.FOLDER
 NULL = os.makedev(1, 3)  # the device of /dev/null
+NOBODY = 65534
 
 
 # Journals
@@ -77,9 +86,14 @@ def drawn(length):
 
 
 def by_oracle(journal):
-    """The conversion of a journal, and why there is none, by the second planner."""
+    """The conversion of a journal by the second planner, and number and offset of the refusal if there is none."""
     done = subprocess.run([ORACLE, "convert"], input=journal, stdout=subprocess.PIPE, stderr=subprocess.PIPE)
-    return done.stdout, done.stderr
+    refusal = re.fullmatch(rb"refusal (\d+) at offset (\d+)\n", done.stderr)
+    return done.stdout, refusal and tuple(map(int, refusal.groups()))
+
+
+def refused(thing, number, offset):
+    return PROGRAM.cannot("convert", thing, why(number, offset))
 
 
 # Files
@@ -201,9 +215,9 @@ def check_examples():
         assert grant_pages(7, 0) in old and grant(7, 0) in new
     for path in sorted(pathlib.Path(EXAMPLES).glob("*.journal")):
         journal = path.read_bytes()
-        converted, why = by_oracle(journal)
-        if why:
-            check_unchanged(path.name, ("old", "new"), {"old": journal}, b"convert_pages: cannot convert old: " + why)
+        converted, refusal = by_oracle(journal)
+        if refusal:
+            check_unchanged(path.name, ("old", "new"), {"old": journal}, refused("old", *refusal))
         else:
             check_files(path.name, ("old", "new"), {"old": journal}, {"old": journal, "new": converted})
 
@@ -211,10 +225,9 @@ def check_examples():
 def check_refused():
     """Not one byte is written, and no file is made or changed."""
     for name, journal, number, offset in REFUSED:
-        said = f": refusal {number} at offset {offset}\n".encode()
-        error = b"convert_pages: cannot convert old" + said
+        error = refused("old", number, offset)
         with check(f"a journal {name}, by the second planner"):
-            assert by_oracle(journal) == (b"", said[2:]), by_oracle(journal)
+            assert by_oracle(journal) == (b"", (number, offset)), by_oracle(journal)
         check_unchanged(f"a journal {name}", ("old",), {"old": journal}, error)
         check_unchanged(f"a journal {name}, with a new file", ("old", "new"), {"old": journal}, error)
         check_unchanged(f"a journal {name}, over a file", ("old", "new"), {"old": journal, "new": NEW}, error)
@@ -222,9 +235,9 @@ def check_refused():
         with tempfile.TemporaryFile() as file:
             file.write(journal)
             file.seek(0)
-            error = b"convert_pages: cannot convert standard input" + said
+            error = refused("standard input", number, offset)
             check_unchanged(f"a journal {name}, on standard input", ("-", "new"), {"new": NEW}, error, stdin=file)
-    error = b"convert_pages: cannot convert old: refusal 11 at offset 0\n"
+    error = refused("old", 11, 0)
     check_unchanged("a refused journal beside a part", ("old", "new"), {"old": b"", "new.part": OLD}, error)
     check_unchanged("a refused journal for a missing folder", ("old", "missing/new"), {"old": b""}, error)
 
@@ -272,8 +285,7 @@ def check_links():
     files = {"old": OLD, "new": "old", "sub": FOLDER, "sub/new": "../old", "by": "sub"}
     for name, new in ("in a folder", "sub/new"), ("in a linked folder", "by/new"), ("by as long a name as there can be", "./" * 2046 + "new"):
         check_unchanged(f"a link {name} as new file", ("old", new), files, cannot_write(new, reason))
-    error = b"convert_pages: cannot convert old: refusal 11 at offset 0\n"
-    check_unchanged("a refused journal for a link", ("old", "new"), {"old": b"", "new": "old"}, error)
+    check_unchanged("a refused journal for a link", ("old", "new"), {"old": b"", "new": "old"}, refused("old", 11, 0))
     # only the last part of the name is looked at
     files = {"old": OLD, "sub": FOLDER, "by": "sub", "link": "old"}
     check_files("a file in a linked folder", ("old", "by/new"), files, {**files, "sub/new": NEW})
@@ -287,11 +299,13 @@ def check_special_files():
         check_unchanged(f"{name} as new file", ("old", "new"), {"old": OLD, "new": what}, cannot_write("new", reason))
     if may_make_devices():
         check_unchanged("a device as new file", ("old", "new"), {"old": OLD, "new": Special.DEVICE}, cannot_write("new", reason))
-    else:
-        check_unchanged("/dev/null as new file", ("old", "/dev/null"), {"old": OLD}, cannot_write("/dev/null", reason))
-        with check("/dev/null after it"):
-            found = os.lstat("/dev/null")
-            assert stat.S_ISCHR(found.st_mode) and found.st_rdev == NULL, oct(found.st_mode)
+        return
+    # by somebody who could not replace it
+    how = {"user": NOBODY, "group": NOBODY, "extra_groups": []} if os.geteuid() == 0 else {}
+    with tempfile.TemporaryFile() as file:
+        file.write(OLD)
+        file.seek(0)
+        check_unchanged("/dev/null as new file", ("-", "/dev/null"), {}, cannot_write("/dev/null", reason), stdin=file, **how)
 
 
 def may_make_devices():
@@ -341,17 +355,49 @@ def check_failing_calls():
         ):
             env = {"LD_PRELOAD": FAILS, "FAILS": call}
             check_unchanged(f"a failing {call}, {beside}", ("old", "new"), files, cannot_write(thing, reason), env=env)
+        for call, thing in ("read", "old"), ("write", "new.part"):
+            most, more = (interrupted(call, FAILS, times) for times in (MOST_INTERRUPTIONS, MOST_INTERRUPTIONS + 1))
+            check_files(f"a {call} that is interrupted often, {beside}", ("old", "new"), files, whole, **most)
+            error = PROGRAM.cannot(call, thing, "Interrupted system call")
+            check_unchanged(f"a {call} that is interrupted once more, {beside}", ("old", "new"), files, error, **more)
         check_files(f"no failing call, {beside}", ("old", "new"), files, whole, env={"LD_PRELOAD": FAILS})
     error = cannot_write("old", "Read-only file system")
     check_unchanged("a failing rename onto itself", ("old", "old"), {"old": OLD}, error, env={"LD_PRELOAD": FAILS, "FAILS": "rename"})
 
 
 def check_arguments():
-    files = {"a": OLD, "b": b"", "-x": OLD}
-    for arguments in ("--help",), ("--help", "a"), ("--help", "a", "b", "c"), ("--help", "-x"):
-        check_files(" ".join(arguments), arguments, files, files, out=USAGE)
-    for arguments in ("a", "b", "c"), ("-x",), ("-x", "b"), ("a", "-x"), ("a", "--help"), ("--",), ("-h",), ("--help ",), ("a", "b", "c", "d"):
-        check_unchanged(" ".join(arguments), arguments, files, USAGE)
+    files = {"a": OLD, "b": b"", "-x": OLD, "--": OLD}
+    for arguments in ("--help",), ("--help", "a"), ("--help", "a", "b", "c"), ("--help", "-x"), ("a", "--help"), ("a", "b", "c", "--help"):
+        check_files(" ".join(arguments), arguments, files, files, out=HELP)
+    for arguments, option in (
+        (("-x",), "-x"),
+        (("-x", "b"), "-x"),
+        (("a", "-x"), "-x"),
+        (("a", "b", "c", "-x"), "-x"),
+        (("-x", "--help"), "-x"),
+        (("-h",), "-h"),
+        (("--help ",), "--help "),
+    ):
+        check_unchanged(" ".join(arguments), arguments, files, PROGRAM.objects("unknown option", option))
+    for arguments, surplus in (
+        (("a", "b", "c"), "c"),
+        (("a", "b", "c", "d"), "c"),
+        (("--", "a", "b", "-x"), "-x"),
+        (("a", "b", "--", "--"), "--"),
+        (("-", "-", "-"), "-"),
+    ):
+        check_unchanged(" ".join(arguments), arguments, files, PROGRAM.objects("unexpected argument", surplus))
+    for arguments, new in (
+        (("--", "-x", "-y"), "-y"),
+        (("a", "--", "-y"), "-y"),
+        (("a", "--", "--"), "--"),
+        (("--", "--", "--help"), "--help"),
+        (("--", "a", "b"), "b"),
+        (("a", "b", "--"), "b"),
+    ):
+        check_files(" ".join(arguments), arguments, files, {**files, new: NEW})
+    for arguments in ("a", "--"), ("--", "-x"), ("--", "--"), ("--", "a", "-"):
+        check_files(" ".join(arguments), arguments, files, files, out=NEW)
 
 
 def check_standard_output():

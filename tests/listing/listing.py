@@ -14,11 +14,37 @@ import subprocess
 import sys
 import tempfile
 
-from programs import Program, admit, check, check_streams, conclude, ends_with, equal, grant, grant_pages, growth, join, release, withdrawal
+from programs import REASONS, Program, admit, check, check_streams, conclude, ends_with, equal, grant, grant_pages, growth, join, release, why
+from programs import withdrawal
 
 LISTING, ORACLE, FAILS, EXAMPLES = (os.path.abspath(path) for path in sys.argv[1:])
-PROGRAM = Program(LISTING)
-USAGE = b"usage: listing [FILE]\nLists the journal in FILE, or on standard input if there is no FILE or it is -.\n"
+PROGRAM = Program(LISTING, b"usage: listing [FILE]\nlisting --help says more.\n")
+HELP = b"""usage: listing [FILE]
+Lists the journal in FILE, or on standard input if there is no FILE or it is -.
+A FILE whose name begins with - comes after --. Each record is a line:
+
+    ordinal kind who size answer node moves move...
+
+ordinal  the place of the record in the journal, from 1
+kind     O open, G grant by level, P grant by pages, R release, Z growth,
+         W join, A admit, X withdrawal
+who      the tenant; for O the height; for A who was admitted, or - for nobody
+size     the level, for P the pages; - for O, R, A and X
+answer   0 if the call was accepted, or else the number of its refusal
+node     the node of the tenant, for R the one given up; 0 if nobody was
+         admitted; - for O, W, X and a refused call
+moves    how many other tenants are moved
+move     tenant:old>new, or tenant:old=new if the tenant is staged: its pages
+         wait outside the reserve while the others move
+
+A journal that cannot be listed to its end has a last line
+
+    ! offset number
+
+with the offset of the first record that is not listed and the number of the
+refusal; standard error then says why. docs/MANUAL.md has all this with examples,
+and what each refusal means.
+"""
 BLOCK = 65536  # bytes that the program writes at once, at most
 PLACES = 64  # in a line
 MOST_PASSES = 8  # of one that waits
@@ -309,13 +335,26 @@ def carry_out(lines):
 # Checks
 
 
+explained = set()  # the refusals that were
+
+
+def explanation(listing, thing):
+    """What is said of a listing that ends with a refusal."""
+    _, last, refusal = listing.rpartition(b"! ")
+    if not last:
+        return b""
+    offset, number = map(int, refusal.split(b" "))
+    explained.add(number)
+    return f"listing: {thing}: {why(number, offset)}\n".encode()
+
+
 def check_listed(name, folder, journal, listing):
     path = folder / "a journal"
     path.write_bytes(journal)
     with check(f"{name}, on standard input"), path.open("rb") as file:
-        ends_with(PROGRAM.start(stdin=file), listing, b"")
+        ends_with(PROGRAM.start(stdin=file), listing, explanation(listing, "standard input"))
     with check(f"{name}, in a file"):
-        ends_with(PROGRAM.start(str(path)), listing, b"")
+        ends_with(PROGRAM.start(str(path)), listing, explanation(listing, path))
 
 
 def text(lines):
@@ -419,24 +458,88 @@ def check_listings(folder, long_journal, long_listing, drawn_journal, drawn_list
     check_carried_out("the longest listing", long_listing)
 
 
+def check_explained():
+    """A refusal that ends a listing is explained once the listing is written, and not if it is not."""
+    with check("every refusal that ends a listing is explained"):
+        assert explained == set(REASONS), explained
+    path = os.path.join(EXAMPLES, "open-again.journal")
+    listing = pathlib.Path(path).with_suffix(".listing").read_bytes()
+    with check("a refusal, from a device that is full"), open("/dev/full", "wb") as full:
+        ends_with(PROGRAM.start(path, stdout=full), b"", PROGRAM.cannot("write", "standard output", "No space left on device"))
+    with check("a refusal, and a failure that is told when standard output is closed"):
+        running = PROGRAM.start(path, env={"LD_PRELOAD": FAILS, "FAILS": "close"})
+        ends_with(running, listing, PROGRAM.cannot("write", "standard output", "Disk quota exceeded"))
+
+
 def check_arguments(folder):
-    journal = pathlib.Path(EXAMPLES, "most-moves.journal")
-    listing = journal.with_suffix(".listing").read_bytes()
-    with check("--help"):
-        ends_with(PROGRAM.start("--help"), USAGE, b"")
-    with check("--help and more"):
-        ends_with(PROGRAM.start("--help", "a", "b"), USAGE, b"")
-    with check("two files"):
-        ends_with(PROGRAM.start(str(journal), str(journal)), b"", USAGE)
-    with check("an option that there is not"):
-        ends_with(PROGRAM.start("-x"), b"", USAGE)
-    with check("- for standard input"), journal.open("rb") as file:
-        ends_with(PROGRAM.start("-", stdin=file), listing, b"")
-    with check("a file whose name is -"):
-        (folder / "-").write_bytes(journal.read_bytes())
-        ends_with(PROGRAM.start("./-", cwd=folder), listing, b"")
+    """Every file lists as another journal, so that it shows which one was taken."""
+    journals = {name: bytes([1, height]) for height, name in enumerate(("a", "-x", "--", "-", "--help", "standard input"))}
+    listings = {name: f"1 O {journal[1]} - 0 - 0\n".encode() for name, journal in journals.items()}
+    for name, journal in journals.items():
+        (folder / name).write_bytes(journal)
+
+    def check_run(arguments, out, error=b""):
+        with check(f"the arguments {arguments}"), (folder / "standard input").open("rb") as file:
+            ends_with(PROGRAM.start(*arguments, cwd=folder, stdin=file), out, error)
+
+    for arguments, name in (
+        ((), "standard input"),
+        (("-",), "standard input"),
+        (("--",), "standard input"),
+        (("--", "-"), "standard input"),
+        (("-", "--"), "standard input"),
+        (("./-",), "-"),
+        (("--", "./-"), "-"),
+        (("./-x",), "-x"),
+        (("--", "-x"), "-x"),
+        (("--", "--"), "--"),
+        (("--", "--help"), "--help"),
+        (("--", "a"), "a"),
+        (("a", "--"), "a"),
+    ):
+        check_run(arguments, listings[name])
+    for arguments in ("",), ("a",), ("a", "b", "c"), ("-",), ("-", "-x"), ("--",), ("-x",), ("--help",):
+        check_run(("--help", *arguments), HELP)
+    for arguments in ("a",), ("a", "b"), ("-",), ("", ""):
+        check_run((*arguments, "--help"), HELP)
+    for arguments, option in (
+        (("-x",), "-x"),
+        (("-x", "a"), "-x"),
+        (("a", "-x"), "-x"),
+        (("a", "b", "-x"), "-x"),
+        (("-", "-x"), "-x"),
+        (("-y", "-x"), "-y"),
+        (("-x", "--help"), "-x"),
+        (("-x", "--"), "-x"),
+        (("-h",), "-h"),
+        (("--hel",), "--hel"),
+        (("--helps",), "--helps"),
+        (("--help ",), "--help "),
+        (("--help=a",), "--help=a"),
+        (("---",), "---"),
+        (("-- ",), "-- "),
+        (("-" + "x" * 5000,), "-" + "x" * 4095),
+    ):
+        check_run(arguments, b"", PROGRAM.objects("unknown option", option))
+    for arguments, surplus in (
+        (("a", "b"), "b"),
+        (("a", "b", "c"), "b"),
+        (("a", "-"), "-"),
+        (("-", "-"), "-"),
+        (("a", ""), ""),
+        (("a", "--", "b"), "b"),
+        (("a", "--", "-x"), "-x"),
+        (("a", "--", "--"), "--"),
+        (("a", "b", "--"), "b"),
+        (("--", "a", "b"), "b"),
+        (("--", "a", "--"), "--"),
+        (("--", "--", "a"), "a"),
+        (("--", "-x", "--help"), "--help"),
+        (("a", "x" * 5000), "x" * 4096),
+    ):
+        check_run(arguments, b"", PROGRAM.objects("unexpected argument", surplus))
     with check("standard input closed beside a file"):
-        ends_with(PROGRAM.start(str(journal), preexec_fn=lambda: os.close(0)), listing, b"")
+        ends_with(PROGRAM.start("a", cwd=folder, preexec_fn=lambda: os.close(0)), listings["a"], b"")
 
 
 def main():
@@ -449,6 +552,7 @@ def main():
         check_listings(folder, long_journal, long_listing, drawn_journal, drawn_listing)
         check_growths(folder, growths, growth_listing)
         check_lines(folder, over, *line_listings)
+        check_explained()
         check_arguments(folder)
         # Where writing fails: inside a block, at its end, and beside it.
         places = 0, 1, 1000, BLOCK - 1, BLOCK, BLOCK + 1, 6 * BLOCK + 777, 7 * BLOCK + 1, len(long_listing) - 1

@@ -8,61 +8,100 @@ ghost use Rattle.io.specs.Counts.{Counts};
 ghost use Rattle.command.specs.Whole.{Within};
 use file::write_file;
 use message::complain;
+use message::explain;
+use message::object;
 use message::refuse;
 use whole::read_all;
 use whole::write_all;
+use words::Word;
 
-// Whether a program that takes from `least` to `most` arguments has work to do. If the first is --help, the usage goes to standard output; if
-// there are fewer or more, or one is an option, to standard error.
-pub fn has_work(program: &[u8], usage: &[u8], least: usize, most: usize) -> bool {
-    let given = arguments();
-    if given > 0 && asks_for_help() {
-        write_output(program, usage);
-        close_output(program);
-        return false;
+// Whether a program that takes from `least` to `most` operands has work to do. The first option among its arguments decides: if it is --help, the
+// help goes to standard output, and any other is named on standard error, before the usage. So is the first operand that is too many.
+pub fn has_work(program: &[u8], usage: &[u8], help: &[u8], least: usize, most: usize) -> bool {
+    let words = os::arg_count();
+    let end = end_of_operands(words);
+    match meaning_of(end) {
+        Word::Help => give_help(program, help),
+        Word::UnknownOption => object_to(end, b"unknown option", program, usage),
+        _ => has_operands(program, usage, least, most),
     }
-    if given < least || given > most || has_option(given) {
+}
+
+// Writes the help to standard output; there is no other work to do.
+fn give_help(program: &[u8], help: &[u8]) -> bool {
+    if write_output(program, help) {
+        close_output(program);
+    }
+    false
+}
+
+// Says what is wrong with argument `i`, and how the program is used; there is no other work to do.
+fn object_to(i: usize, fault: &[u8], program: &[u8], usage: &[u8]) -> bool {
+    let mut word = io::buffer();
+    let n = put_word(i, &mut word);
+    object(program, fault, &word[..n], usage);
+    false
+}
+
+// Whether there are from `least` to `most` operands, or says on standard error what is wrong.
+fn has_operands(program: &[u8], usage: &[u8], least: usize, most: usize) -> bool {
+    let words = os::arg_count();
+    if most < words {
+        let surplus = place_of(most + 1);
+        if surplus < words {
+            return object_to(surplus, b"unexpected argument", program, usage);
+        }
+    }
+    if least > 0 && place_of(least) >= words {
         write_all(libc::STDERR_FILENO, usage);
         return false;
     }
     true
 }
 
-// How many arguments follow the program's name.
-fn arguments() -> usize {
-    let words = os::arg_count();
-    if words == 0 { 0 } else { words - 1 }
-}
-
-// Whether the first argument is --help.
-fn asks_for_help() -> bool {
-    let mut text = io::buffer();
-    let n = argument(1, &mut text);
-    check::same(&text[..n], b"--help")
-}
-
-// Whether one of the first `given` arguments is an option.
-fn has_option(given: usize) -> bool {
-    let mut i = 0;
-    while i < given {
+// The first of so many words that is no operand, after the program's name: an option, or `--`. If there is none, that is the first that is missing.
+fn end_of_operands(words: usize) -> usize {
+    let mut i = 1;
+    while i < words && is_operand(i) {
         i += 1;
-        if is_option_at(i) {
-            return true;
-        }
     }
-    false
+    i
 }
 
-// Whether argument `i` is an option.
-fn is_option_at(i: usize) -> bool {
+fn is_operand(i: usize) -> bool {
+    match meaning_of(i) {
+        Word::Operand => true,
+        _ => false,
+    }
+}
+
+// What argument `i` means if no `--` comes before it. One that is missing is an operand.
+fn meaning_of(i: usize) -> Word {
     let mut text = io::buffer();
-    let n = argument(i, &mut text);
-    words::is_option(&text[..n])
+    let n = put_word(i, &mut text);
+    words::meaning(&text[..n])
 }
 
-// Puts argument `i` at the start of the buffer and answers its length; if there is none, `-`, which names standard input. Of an argument that is
-// longer than the buffer come the first 4,096 bytes: no path is so long, so none is taken for another.
+// Which argument operand `i` is, one that is missing if there is no such operand: `--` is passed over.
+fn place_of(i: usize) -> usize {
+    let words = os::arg_count();
+    if i < words && i >= end_of_operands(words) {
+        return i + 1;
+    }
+    i
+}
+
+// Puts operand `i` at the start of the buffer and answers its length; if there is none, `-`, which names standard input. The operands are the
+// arguments but for the first `--`, behind which none is an option.
 pub fn argument(i: usize, text: &mut [u8]) -> usize
+    ensures { λ r. ⌜ Counts r (now (text .exit)) ⌝ }
+{
+    put_word(place_of(i), text)
+}
+
+// Puts argument `i` at the start of the buffer and answers its length, or `-` if there is none. Of an argument that is longer than the buffer come
+// the first 4,096 bytes: no path is so long, so none is taken for another.
+fn put_word(i: usize, text: &mut [u8]) -> usize
     ensures { λ r. ⌜ Counts r (now (text .exit)) ⌝ }
 {
     let n = os::arg(i, text);
@@ -115,7 +154,16 @@ fn read_from(program: &[u8], fd: i32, name: &[u8], buf: &mut [u8]) -> Input
     input
 }
 
-// Says on standard error that the journal in the file of that name, or on standard input for `-`, is refused.
+// Says on standard error why the listing of the journal in the file of that name, or on standard input for `-`, has ended.
+pub fn explain_end(program: &[u8], name: &[u8], number: u16, offset: usize) {
+    if check::same(name, b"-") {
+        explain(program, b"standard input", number, offset);
+        return;
+    }
+    explain(program, name, number, offset);
+}
+
+// Says on standard error why nothing is done with the journal in the file of that name, or on standard input for `-`.
 pub fn refuse_input(program: &[u8], deed: &[u8], name: &[u8], number: u16, offset: usize) {
     if check::same(name, b"-") {
         refuse(program, deed, b"standard input", number, offset);
@@ -144,10 +192,12 @@ pub fn write_output(program: &[u8], bytes: &[u8]) -> bool {
     written
 }
 
-// Closes standard output, and says on standard error if that fails: some systems tell only then that a write failed. If it was closed from the
-// start, whoever wrote to it has been told.
-pub fn close_output(program: &[u8]) {
+// Closes standard output and answers true, or says on standard error that it fails: some systems tell only then that a write failed. If it was
+// closed from the start, whoever wrote to it has been told.
+pub fn close_output(program: &[u8]) -> bool {
     if libc::close(libc::STDOUT_FILENO) < 0 && os::errno() != libc::EBADF {
         complain(program, b"write", b"standard output");
+        return false;
     }
+    true
 }

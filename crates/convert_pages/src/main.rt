@@ -3,15 +3,28 @@ use command::Input;
 use conversion::Conversion;
 
 fn main() {
-    let usage = b"usage: convert_pages [OLD [NEW]]\n\
-        Converts the journal in OLD into NEW: each grant of 0 pages becomes a grant of level 0.\n\
-        Without OLD, or if it is -, it reads standard input; without NEW, or if it is -, it writes to standard output.\n";
-    if !command::has_work(b"convert_pages", usage, 0, 2) {
+    if !has_work() {
         return;
     }
     let mut old = io::buffer();
     let length = command::argument(1, &mut old);
     convert_from(&old[..length]);
+}
+
+// Whether there is a journal to convert, or the program only says how it is used.
+fn has_work() -> bool {
+    let usage = b"usage: convert_pages [OLD [NEW]]\nconvert_pages --help says more.\n";
+    let help = b"usage: convert_pages [OLD [NEW]]\n\
+        Converts the journal in OLD into NEW: each grant of 0 pages becomes a grant of\n\
+        level 0, and every other record is copied. It is for journals from before\n\
+        version 4.0 of the header, in which 0 pages meant one page; now they mean 16.\n\
+        Without OLD, or if it is -, it reads standard input; without NEW, or if it is -,\n\
+        it writes to standard output. A name that begins with - comes after --.\n\
+        The whole journal is converted, or nothing. NEW is written as NEW.part, which\n\
+        takes the name NEW when all of it is on the disk. A NEW.part that is there\n\
+        before is left as it is, and nothing is converted: remove it if no conversion is\n\
+        at work. \"Old journals\" in docs/MANUAL.md has the rest.\n";
+    command::has_work(b"convert_pages", usage, help, 0, 2)
 }
 
 // Reads the journal in the file of that name, or on standard input for `-`, and converts it.

@@ -34,11 +34,26 @@ impl Left {
 
     pub fn refused(stop: Stop) -> Self {
         let Stop { number, offset } = stop;
-        let message = format!("convert_pages: cannot convert standard input: refusal {number} at offset {offset}\n");
+        let reason = reason(number);
+        let message =
+            format!("convert_pages: cannot convert standard input: {reason}, refusal {number} at offset {offset}\n");
         Left {
             out: Vec::new(),
             error: message.into_bytes(),
         }
+    }
+}
+
+/// What the program says of a refusal. No journal is refused with a number that is not named here.
+fn reason(number: u32) -> &'static str {
+    match number {
+        1 => "the height is above 12",
+        11 => "the journal is empty, or its first record is no open",
+        12 => "a record of unknown kind",
+        13 => "the journal ends inside a record",
+        14 => "an open record that is not the first",
+        16 => "the journal has more than 65,536 bytes",
+        _ => "the journal is refused",
     }
 }
 
@@ -133,7 +148,7 @@ fn ends_as_listed(left: &Left, listing: &[u8]) -> Result<(), String> {
     let agrees = match last.strip_prefix("! ").and_then(|end| end.split_once(' ')) {
         None => bytes > 0 && error.is_empty(),
         Some((offset, number)) => {
-            let end = format!(": refusal {number} at offset {offset}\n");
+            let end = format!(", refusal {number} at offset {offset}\n");
             bytes == 0 && error.ends_with(&end) && error.lines().count() == 1
         }
     };

@@ -1,9 +1,9 @@
--- `argument` meets its contract, also where the argument fills the whole text.
+-- `put_word` meets its contract, also where the argument fills the whole text.
 use native.Mathlib.Omega.{arith}
 use borrow.Author.Needs.{needs}
 use Rattle.command.proofs.Counted.{counts-within}
-use Rattle.command.proofs.argument.Statement.{statement}
-use Rattle.command.proofs.argument.Tie as tie
+use Rattle.command.proofs.put_word.Statement.{statement}
+use Rattle.command.proofs.put_word.Tie as tie
 
 arg-requires : tie.Need-arg-requires
 arg-requires c κs = search needs
@@ -32,8 +32,8 @@ same-length-3 c = search needs
 returns-3 : tie.Need-returns-3
 returns-3 c = search needs
 
-pub argument-spec : {M : Type 1} → statement M
-argument-spec =
+pub put-word-spec : {M : Type 1} → statement M
+put-word-spec =
     tie.close
     (tie.spec
     arg-requires
