@@ -15,15 +15,15 @@ use whole::read_all;
 use whole::write_all;
 use words::Word;
 
-// Whether a program that takes from `least` to `most` operands has work to do. The first option among its arguments decides: if it is --help, the
+// Whether a program that takes up to `most` operands has work to do. The first option among its arguments decides: if it is --help, the
 // help goes to standard output, and any other is named on standard error, before the usage. So is the first operand that is too many.
-pub fn has_work(program: &[u8], usage: &[u8], help: &[u8], least: usize, most: usize) -> bool {
+pub fn has_work(program: &[u8], usage: &[u8], help: &[u8], most: usize) -> bool {
     let words = os::arg_count();
     let end = end_of_operands(words);
     match meaning_of(end) {
         Word::Help => give_help(program, help),
         Word::UnknownOption => object_to(end, b"unknown option", program, usage),
-        _ => has_operands(program, usage, least, most),
+        _ => has_operands(program, usage, most),
     }
 }
 
@@ -43,18 +43,14 @@ fn object_to(i: usize, fault: &[u8], program: &[u8], usage: &[u8]) -> bool {
     false
 }
 
-// Whether there are from `least` to `most` operands, or says on standard error what is wrong.
-fn has_operands(program: &[u8], usage: &[u8], least: usize, most: usize) -> bool {
+// Whether there are up to `most` operands, or names on standard error the first that is too many.
+fn has_operands(program: &[u8], usage: &[u8], most: usize) -> bool {
     let words = os::arg_count();
     if most < words {
         let surplus = place_of(most + 1);
         if surplus < words {
             return object_to(surplus, b"unexpected argument", program, usage);
         }
-    }
-    if least > 0 && place_of(least) >= words {
-        write_all(libc::STDERR_FILENO, usage);
-        return false;
     }
     true
 }

@@ -24,7 +24,7 @@ fn has_work() -> bool {
         takes the name NEW when all of it is on the disk. A NEW.part that is there\n\
         before is left as it is, and nothing is converted: remove it if no conversion is\n\
         at work. \"Old journals\" in docs/MANUAL.md has the rest.\n";
-    command::has_work(b"convert_pages", usage, help, 0, 2)
+    command::has_work(b"convert_pages", usage, help, 2)
 }
 
 // Reads the journal in the file of that name, or on standard input for `-`, and converts it.

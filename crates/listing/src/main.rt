@@ -32,7 +32,7 @@ fn has_work() -> bool {
         with the offset of the first record that is not listed and the number of the\n\
         refusal; standard error then says why. docs/MANUAL.md has all this with examples,\n\
         and what each refusal means.\n";
-    command::has_work(b"listing", usage, help, 0, 1)
+    command::has_work(b"listing", usage, help, 1)
 }
 
 // Lists the journal in the file of that name, or on standard input for `-`.

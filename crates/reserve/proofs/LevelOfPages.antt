@@ -1,19 +1,15 @@
 -- The level that the C door tells for a number of pages: the cases of the definition, and that it is the one that a grant by pages asks for.
-use mathlib.Core.Path.{_≡_, refl, sym, _∙_}
-use mathlib.Core.Bool.{Bool, true, false, cond}
-use mathlib.Core.List.{List, [], _∷_, _++_}
-use Prim.Native.Nat.{ℕ, zero, suc, _^_, _≤_, _<_}
+use mathlib.Core.Path.{_≡_, refl}
+use Prim.Native.Nat.{ℕ, _^_, _≤_, _<_}
 use native.Mathlib.Omega.{arith}
 use native.Mathlib.Decide.{decLt, decLe}
-use borrow.Author.Tests.{lt-ltb, le-ltb, le-leb, lt-leb}
+use borrow.Author.Tests.{lt-ltb, le-ltb, le-leb, lt-leb, eq-eqb}
+use lib.ListN.{length}
 use Rattle.sizes.specs.Level.{levelFor}
 use Rattle.sizes.proofs.Level.{level-of-pages}
 use Rattle.rules.specs.Call.{grant-level, grant-pages}
 use Rattle.admission.specs.Call.{State, direct}
-use Rattle.rules.specs.Step.{Check, check, first, list-checks}
-use Rattle.rules.proofs.Checks.{Numbered}
-use Rattle.admission.specs.Step.{Outcome, reserve-checks, order-check, grant-holdings, checks, accepted, unless, step}
-use Rattle.reserve.specs.declared.levels.Level.{Level}
+use Rattle.admission.specs.Step.{step}
 use Rattle.reserve.specs.LevelOfPages.{noLevel, levelAsked, TellsLevel, LevelTold}
 
 -- ---- the cases of the definition
@@ -45,51 +41,36 @@ same-step : (h p : ℕ) → p < 2 ^ h → (S : State) (t m : ℕ)
 unfolding step
 same-step h p q S t m = rw (le-ltb h (levelFor h p) (in-height h p q), lt-leb (2 ^ h) p q)
 
--- where a check applies, some number is answered
-some-number : (xs ys : List Check) (n : ℕ) → Numbered xs → 0 < n → 0 < first (xs ++ check n true ∷ ys)
-some-number [] ys n numbered p = p
-some-number (c ∷ xs) ys n numbered p = go (c .applies) (some-number xs ys n (numbered .1) p)
-  where
-    go : (b : Bool) → 0 < first (xs ++ check n true ∷ ys) → 0 < cond b (c .number) (first (xs ++ check n true ∷ ys))
-    go true rest = numbered .0
-    go false rest = rest
-
-not-done : (n : ℕ) (S : State) (done : Outcome) → 0 < n → ¬ (unless n S done .answer ≡ 0)
-not-done zero S done p e = omega arith
-not-done (suc n) S done p e = omega arith
-
 module _ (h p : ℕ) (S : State) (t m : ℕ) where
-  refused-above-12 : 12 < h → ¬ (step h S (direct (grant-pages t p m)) .answer ≡ 0)
+  refused-above-12 : 12 < h → step h S (direct (grant-pages t p m)) .answer ≡ 1
   unfolding step
-  refused-above-12 q = rw (lt-ltb 12 h q) (not-done 1 S (accepted h S (direct (grant-pages t p m))) (omega arith))
+  refused-above-12 q = rw (lt-ltb 12 h q)
 
-  refused-too-many : 2 ^ h ≤ p → ¬ (step h S (direct (grant-pages t p m)) .answer ≡ 0)
+  refused-too-many : h ≤ 12 → 2 ^ h ≤ p → length (S .table) ≡ 4096 → length (S .line) ≡ 193 → 4 ≤ m → t < 4096
+      → step h S (direct (grant-pages t p m)) .answer ≡ 6
   unfolding step
-  refused-too-many q =
-      not-done (first (checks h S (direct (grant-pages t p m)))) S (accepted h S (direct (grant-pages t p m)))
-      (rw (le-leb (2 ^ h) p q)
-      (some-number (reserve-checks h S ++ list-checks 4 t m) (order-check h S ∷ grant-holdings h S t (levelFor h p)) 6
-      (omega arith, (omega arith, (omega arith, (omega arith, (omega arith, tt))))) (omega arith)))
+  refused-too-many low q table line entries tenant =
+      rw (le-ltb 12 h low, eq-eqb (length (S .table)) 4096 table, eq-eqb (length (S .line)) 193 line, le-ltb m 4 entries)
+      (rw (le-ltb 4095 t (omega arith), le-leb (2 ^ h) p q))
 
 -- ---- the theorem
 
 pub level-told : LevelTold
 level-told h p = go (decLe h 12) (decLt p (2 ^ h))
   where
-    refused-with : (number : ℕ) → 0 < number → levelAsked h p ≡ noLevel number
-        → ((S : State) (t m : ℕ) → ¬ (step h S (direct (grant-pages t p m)) .answer ≡ 0)) → TellsLevel h p (levelAsked h p)
-    refused-with number above e refused = rw e (record {
-      same-grant = λ z. absurd (omega (arith, above));
-      within = λ z. absurd (omega (arith, above));
-      no-grant = λ _. refused;
-    })
-
     go : Dec (h ≤ 12) → Dec (p < 2 ^ h) → TellsLevel h p (levelAsked h p)
-    go (no above) d = refused-with 1 (omega arith) (level-above-12 h p (omega arith)) (λ S t m. refused-above-12 h p S t m (omega arith))
-    go (yes low) (no many) =
-        refused-with 6 (omega arith) (level-of-too-many h p low (omega arith)) (λ S t m. refused-too-many h p S t m (omega arith))
+    go (no above) d = rw (level-above-12 h p (omega arith)) (record {
+      same-grant = λ z. absurd (omega arith);
+      within = λ z. absurd (omega arith);
+      same-refusal = λ _ S t m table line entries tenant. refused-above-12 h p S t m (omega arith);
+    })
+    go (yes low) (no many) = rw (level-of-too-many h p low (omega arith)) (record {
+      same-grant = λ z. absurd (omega arith);
+      within = λ z. absurd (omega arith);
+      same-refusal = λ _ S t m. refused-too-many h p S t m low (omega arith);
+    })
     go (yes low) (yes few) = rw (level-of-few h p low few) (record {
       same-grant = λ z. same-step h p few;
       within = λ z. in-height h p few;
-      no-grant = λ none. absurd (none refl);
+      same-refusal = λ refused. absurd (refused refl);
     })

@@ -13,6 +13,5 @@ reason number =
     (cond (eqb number 12) (bytes "a record of unknown kind")
     (cond (eqb number 13) (bytes "the journal ends inside a record")
     (cond (eqb number 14) (bytes "an open record that is not the first")
-    (cond (eqb number 15) (bytes "the map has fewer than 512 bytes, or the record does not fit")
     (cond (eqb number 16) (bytes "the journal has more than 65,536 bytes")
-    (bytes "the journal is refused")))))))
+    (bytes "the journal is refused"))))))

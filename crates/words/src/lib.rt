@@ -14,7 +14,6 @@ use refusal::HEIGHT;
 use refusal::NO_OPEN;
 use refusal::OPEN_AGAIN;
 use refusal::TOO_LONG;
-use refusal::TOO_SHORT;
 use refusal::UNKNOWN_KIND;
 
 // What a word of the command line means, as long as the options have not ended.
@@ -142,11 +141,6 @@ fn append_reason(text: &mut [u8], n: usize, number: u16) -> usize
         UNKNOWN_KIND => append(text, n, b"a record of unknown kind"),
         CUT_OFF => append(text, n, b"the journal ends inside a record"),
         OPEN_AGAIN => append(text, n, b"an open record that is not the first"),
-        TOO_SHORT => append(
-            text,
-            n,
-            b"the map has fewer than 512 bytes, or the record does not fit",
-        ),
         TOO_LONG => append(text, n, b"the journal has more than 65,536 bytes"),
         _ => append(text, n, b"the journal is refused"),
     }

@@ -46,12 +46,6 @@ slice-aggregate-append-7 c = search needs
 append-requires-7 : tie.Need-append-requires-7
 append-requires-7 c κs = search needs
 
-slice-aggregate-append-8 : tie.Need-slice-aggregate-append-8
-slice-aggregate-append-8 c = search needs
-
-append-requires-8 : tie.Need-append-requires-8
-append-requires-8 c κs = search needs
-
 same-length : tie.Need-same-length
 same-length c = search needs
 
@@ -92,24 +86,17 @@ same-length-7 : tie.Need-same-length-7
 same-length-7 c = search needs
 
 returns-7 : tie.Need-returns-7
-returns-7 c = rw (c .before .before .before .before .before .match .keys7) (c .before .before .append7 .ensures)
-
-same-length-8 : tie.Need-same-length-8
-same-length-8 c = search needs
-
-returns-8 : tie.Need-returns-8
-returns-8 c =
+returns-7 c =
     let none = c .before .before .before .before .before .match .rest in
-    let none-to-13 = none .0 .0 .0 in
+    let none-to-13 = none .0 .0 in
     simp (
       ne-eqb _ _ (none-to-13 .0 .0 .0 .1),
       ne-eqb _ _ (none-to-13 .0 .0 .1),
       ne-eqb _ _ (none-to-13 .0 .1),
       ne-eqb _ _ (none-to-13 .1),
-      ne-eqb _ _ (none .0 .0 .1),
       ne-eqb _ _ (none .0 .1),
       ne-eqb _ _ (none .1),
-    ) (c .before .before .append8 .ensures)
+    ) (c .before .before .append7 .ensures)
 
 pub append-reason-spec : {M : Type 1} → statement M
 append-reason-spec =
@@ -129,8 +116,6 @@ append-reason-spec =
     append-requires-6
     slice-aggregate-append-7
     append-requires-7
-    slice-aggregate-append-8
-    append-requires-8
     same-length
     returns
     same-length-2
@@ -144,6 +129,4 @@ append-reason-spec =
     same-length-6
     returns-6
     same-length-7
-    returns-7
-    same-length-8
-    returns-8)
+    returns-7)

@@ -1,10 +1,10 @@
 -- `meaning` meets its contract: each test is that of the definition.
-use Rattle.lines.specs.Ascii.{bytes}
-use Rattle.words.specs.Word.{same}
-use Rattle.words.proofs.Sameness.{same-as}
 use mathlib.Core.Path.{_≡_, sym, _∙_}
 use mathlib.Core.Bool.{false}
 use borrow.Author.Needs.{needs}
+use Rattle.lines.specs.Ascii.{bytes}
+use Rattle.words.specs.Word.{same}
+use Rattle.words.proofs.Sameness.{same-as}
 use Rattle.words.proofs.meaning.Statement.{statement}
 use Rattle.words.proofs.meaning.Tie as tie
 
