@@ -16,7 +16,7 @@ both_left false b p = p
 
 pub both_right : (a b : Bool) → (a && b) ≡ true → b ≡ true
 both_right true b p = p
-both_right false b p = absurd (let z : ◌≡◌ {A = ℕ} 0 1 = cc in native.Mathlib.Nat.suc_ne_zero 0 (sym z))
+both_right false b p = absurd (let z : ◌≡◌ {A = ℕ} 0 1 = cc in native.Mathlib.Nat.suc-ne-zero 0 (sym z))
 
 pub set_of_blocks : (h : ℕ) (A : Nodes) → Within h A → SameSet h A (blocks_of h A)
 set_of_blocks h A w =

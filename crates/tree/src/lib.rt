@@ -1,4 +1,6 @@
 // Nodes of the reserve's tree, by number: the root is 1, and the children of n are 2n and 2n + 1.
+#![tactic(auto)]
+
 ghost use Rattle.std.specs.Prelude.{◌≡◌};
 ghost use Rattle.tree.specs.Node as Node;
 
