@@ -1,4 +1,6 @@
 // The calls of the reserve over a lent table and a lent line: what the arguments of each decide, opening, joins and withdrawals.
+#![tactic(auto)]
+
 ghost use Rattle.std.specs.Prelude.{◌≡◌, ◌<◌};
 ghost use Rattle.rules.specs.Value.{answer_of};
 ghost use Rattle.admission.specs.Call.{join as Call·join, withdraw as Call·withdraw};
@@ -15,7 +17,7 @@ pub mod refusals;
 mod waiting;
 
 // A call that may move tenants: one that names its own tenant's block, or an admit.
-#[derive(Drop)]
+#[derive(Clone, Copy)]
 pub enum Request {
     Direct { call: Call },
     Admit,
@@ -34,7 +36,7 @@ impl Request {
 }
 
 // What a request reports: its answer, whom an admit granted, and the moves that it made.
-#[derive(Drop)]
+#[derive(Clone, Copy)]
 pub struct Admitted {
     pub answer: Answer,
     pub named: Named,

@@ -1,1 +1,3 @@
 // What holds of one box and of two, after whole histories of calls with a line. There are theorems here and no code.
+#![tactic(auto)]
+

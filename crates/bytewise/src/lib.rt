@@ -1,5 +1,7 @@
 // The set bits of a page map counted byte by byte, as `pagemap::count` did before it took 64 bits at a time. Both have the same contract, so they
 // give the same for every lent map. The benchmark holds them side by side; no other crate calls this one, and the C door's archive is without it.
+#![tactic(auto)]
+
 ghost use Rattle.std.specs.Prelude.{◌≡◌, ◌≤◌, length};
 ghost use Rattle.pagemap.specs.Count.{set_bits, counted};
 

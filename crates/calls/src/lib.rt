@@ -1,4 +1,6 @@
 // The calls of the reserve over a lent table: opening, and grants by level and by pages, releases and growths, which one function runs.
+#![tactic(auto)]
+
 ghost use Rattle.std.specs.Prelude.{◌≡◌};
 ghost use Rattle.rules.specs.Step.{open_reserve, step};
 ghost use Rattle.rules.specs.Value.{call_of, answer_of, Gives};

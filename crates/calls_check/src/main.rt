@@ -2,6 +2,8 @@
 // lines of any length. A line for each call, as in the listing but without its ordinal: kind, height or tenant, level or pages, answer, node,
 // number of moves, and all seven entries of the array of moves, also those that no move stands in. A line with = has the numbers of the table,
 // or of the line, that are not 0, each behind its place. The papers' examples are journals in examples/, which tests/listing and tests/door run.
+#![tactic(auto)]
+
 use admission::{Admitted, Request};
 use line::{NUMBERS, Named};
 use planner::perform_by_value;

@@ -1,4 +1,6 @@
 // What programs that work on journals share: their arguments, reading and writing whole, and what they say on standard error.
+#![tactic(auto)]
+
 mod file;
 mod message;
 mod whole;

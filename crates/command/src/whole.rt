@@ -5,7 +5,7 @@ ghost use Rattle.command.specs.Whole.{Within};
 const TRIES: usize = 1000;
 
 // What was read: so many bytes, after which the buffer was full or the input ended; or a read failed, and errno says why.
-#[derive(Drop)]
+#[derive(Clone, Copy)]
 pub enum Input {
     Whole(usize),
     Failed,

@@ -1,4 +1,6 @@
 // Converts a journal: each grant of 0 pages becomes a grant of level 0, and every other record stays as it is.
+#![tactic(auto)]
+
 use command::Input;
 use conversion::Conversion;
 

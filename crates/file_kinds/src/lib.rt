@@ -1,4 +1,6 @@
 // What has a name in the file system.
+#![tactic(auto)]
+
 ghost use Rattle.std.specs.Prelude.{◌≡◌, ◌<◌, length};
 ghost use Rattle.libc.specs.Io.{Ended};
 ghost use Rattle.file_kinds.specs.Kind.{kind_of, told_mode};
@@ -7,7 +9,7 @@ ghost use Rattle.file_kinds.specs.Path.{padded};
 use libc::{PATH_MAX, types};
 
 // Nothing, a regular file, a directory, a symbolic link, or something else: a device, a FIFO or a socket.
-#[derive(Drop)]
+#[derive(Clone, Copy)]
 pub enum FileKind {
     Nothing,
     Regular,

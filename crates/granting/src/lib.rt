@@ -1,4 +1,6 @@
 // The calls that may move tenants, over a lent table and a lent line: grants, releases and growths, and admits.
+#![tactic(auto)]
+
 ghost use Rattle.rules.specs.Value.{call_of};
 ghost use Rattle.admission.specs.Call.{direct};
 ghost use Rattle.admission.specs.Step.{step};

@@ -1,4 +1,6 @@
 // Numbers of 16 bits as bytes, the low byte first: the image of a table, of a line and of a list of moves.
+#![tactic(auto)]
+
 ghost use Rattle.std.specs.Prelude.{◌≡◌, [], ◌∷◌, ◌++◌, ◌+◌, ◌*◌, ◌≤◌, length, drop};
 ghost use Rattle.std.proofs.lemmas.List.Edits.{sets};
 ghost use Rattle.plans.specs.Plan.{moves_in};

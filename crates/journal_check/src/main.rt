@@ -1,5 +1,7 @@
 // Reads journals that stand for the cases of the format, and prints a line for each record and for what ends the reading; then
 // writes records and prints the bytes. The file stdout holds what documents 01 and 02 say of them.
+#![tactic(auto)]
+
 use journal::{Read, Record, Written};
 
 fn main() {

@@ -1,4 +1,6 @@
 // Counts of blocks by level, and their layout as one row for each level, from which a node is tested or found in constant time.
+#![tactic(auto)]
+
 ghost use Rattle.std.specs.Prelude.{◌≡◌, ◌+◌, ◌*◌, ◌^◌, ◌≤◌, ◌<◌, length, replicate};
 ghost use Rattle.layout.specs.Layout.{pages, running, place, rise};
 ghost use Rattle.layout.specs.Change.{one_block_fewer};
@@ -19,13 +21,13 @@ pub const LEVELS: usize = 13;
 pub const NO_LEVEL: u16 = 13;
 
 // How many blocks each level has.
-#[derive(Drop)]
+#[derive(Clone, Copy)]
 pub struct Counts {
     pub at: [u16; LEVELS],
 }
 
 // For each level, the index where its run of blocks begins, how many blocks the run has, and the index of the block that became lone, or NONE.
-#[derive(Drop)]
+#[derive(Clone, Copy)]
 pub struct Layout {
     pub start: [u16; LEVELS],
     pub run: [u16; LEVELS],
@@ -194,7 +196,7 @@ pub fn power(e: u16) -> u16
 
 // What the levels below leave to a level: the first `before` subtrees are in use, and, unless `level` is NONE, the next one too, in which
 // a block of level `level` stands alone, `down` levels below.
-#[derive(Drop)]
+#[derive(Clone, Copy)]
 struct Climb {
     before: u16,
     level: u16,

@@ -1,5 +1,7 @@
 // Prints the layouts that document 01 gives to check against, a line each: the height, the counts from level 0 up, and the nodes of
 // each level, left to right; then the height 5 layout before and after a grant at level 1.
+#![tactic(auto)]
+
 use layout::Counts;
 
 const OUT: i32 = 1;

@@ -1,5 +1,7 @@
 // The line of those who wait for a block, over 193 lent numbers: how many wait, then tenant, level and passed count of each, the oldest first, and
 // zeros behind them.
+#![tactic(auto)]
+
 ghost use Rattle.std.specs.Prelude.{◌≡◌, ℕ, ◌+◌, ◌-◌, ◌≤◌, ◌<◌, [], ◌∷◌, ◌++◌, ltb, length, take, drop};
 ghost use Rattle.line.specs.Line.{line_of, at, standing, waiting_count, waiting_in};
 ghost use Rattle.line.specs.Order.{may_wait?, orderly?, line_in_order?};
@@ -20,7 +22,7 @@ const LIMIT: u16 = 8;
 const LAST_TENANT: u16 = 4095;
 
 // The tenant that an admit granted, or nobody.
-#[derive(Drop)]
+#[derive(Clone, Copy)]
 pub enum Named {
     Nobody,
     Tenant { tenant: u16 },

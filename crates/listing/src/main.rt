@@ -1,4 +1,6 @@
 // Lists a journal on standard output: that in the file that the argument names, or that on standard input.
+#![tactic(auto)]
+
 use command::Input;
 use conversion::Conversion;
 use line::NUMBERS;

@@ -1,4 +1,6 @@
 // The page map of a reserve: a bit for each page, set where a held block covers the page, and the number of bits set in a lent map.
+#![tactic(auto)]
+
 ghost use Rattle.std.specs.Prelude.{◌≡◌, ℕ, min, ◌≤◌, ◌<◌, ◌++◌, length, get_or, take, drop};
 ghost use Rattle.tree.specs.Held.{one_if};
 ghost use Rattle.tree.specs.Pages.{coveredb};
@@ -25,7 +27,7 @@ const NUMBERS: usize = 64;
 
 // What counting answers: 0 and the number of set bits, or 15 and 0.
 #[repr(C)]
-#[derive(Drop)]
+#[derive(Clone, Copy)]
 pub struct Counted {
     pub answer: u16,
     pub count: u16,

@@ -1,1 +1,3 @@
 // What happened to a line, and who waits by that.
+#![tactic(auto)]
+

@@ -1,4 +1,6 @@
 // The reserve's calls over a lent table, a lent line and a lent list of moves.
+#![tactic(auto)]
+
 ghost use Rattle.std.specs.Prelude.{◌≡◌, ◌++◌, ◌≤◌, ◌<◌, length, get_or, drop};
 ghost use Rattle.plans.specs.Plan.{moves_in, no_move};
 ghost use Rattle.admission.specs.Step.{step};
@@ -13,7 +15,7 @@ use rules::Answer;
 use table::Move;
 
 // What a call reports: its answer, whom an admit granted, and how many moves stand in the list.
-#[derive(Drop)]
+#[derive(Clone, Copy)]
 pub struct Report {
     pub answer: Answer,
     pub named: Named,

@@ -1,5 +1,7 @@
 // Which blocks move when one layout takes the place of another: level by level, from the ends of the two runs, the lone blocks and the hole
 // alone, with no pass over the nodes.
+#![tactic(auto)]
+
 ghost use Rattle.std.specs.Prelude.{◌≡◌, [], ◌∷◌, ◌++◌, ◌+◌, ◌^◌, ◌≤◌, ◌<◌, length, get_or};
 ghost use Rattle.layout.specs.Rows.{no_index};
 ghost use Rattle.plans.specs.Plan.{row_holds, same_row, after as Plan·after, only_in, better_of, least_only, moves_in, plan_of};
@@ -10,7 +12,7 @@ use layout::{Layout, NONE};
 use table::{Move, NODES};
 
 // The blocks of one level by index: the `run` indices from `start` on, and `lone`, but not `hole`. NONE for no lone block, and for no hole.
-#[derive(Drop)]
+#[derive(Clone, Copy)]
 pub struct Row {
     pub start: u16,
     pub run: u16,
@@ -91,7 +93,7 @@ fn least(old: Row, new: Row, from: u16) -> u16
 }
 
 // At most seven moves, in order: the first `n` entries. The others hold zeros.
-#[derive(Drop)]
+#[derive(Clone, Copy)]
 pub struct Plan {
     pub n: usize,
     pub moves: [Move; 7],
@@ -140,7 +142,7 @@ fn move_from(owners: &[u16; NODES], from: u16, to: u16) -> Move
 }
 
 // A plan, and the index of a place that is left over, or NONE.
-#[derive(Drop)]
+#[derive(Clone, Copy)]
 pub struct Shifted {
     pub plan: Plan,
     pub spare: u16,
@@ -220,7 +222,7 @@ fn node_on(base: u16, index: u16) -> u16
 }
 
 // Moves, and the newcomer's node, or 0.
-#[derive(Drop)]
+#[derive(Clone, Copy)]
 pub struct Planned {
     pub plan: Plan,
     pub node: u16,

@@ -8,7 +8,7 @@ use table::TENANTS;
 
 // What a tenant's entry holds: 0 or the number of a refusal, and the tenant's node, or 0 if it holds nothing.
 #[repr(C)]
-#[derive(Drop)]
+#[derive(Clone, Copy)]
 pub struct Entry {
     pub answer: u16,
     pub node: u16,

@@ -7,7 +7,7 @@ use sizes::level_for;
 
 // Which level a number of pages takes: 0 or the number of a refusal, and the level.
 #[repr(C)]
-#[derive(Drop)]
+#[derive(Clone, Copy)]
 pub struct Level {
     pub answer: u16,
     pub level: u16,

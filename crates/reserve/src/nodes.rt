@@ -7,7 +7,7 @@ use tree::depth;
 
 // Which pages a node covers: 0 or the number of a refusal, the first page, and how many there are.
 #[repr(C)]
-#[derive(Drop)]
+#[derive(Clone, Copy)]
 pub struct Pages {
     pub answer: u16,
     pub first: u16,

@@ -10,7 +10,7 @@ use table::TENANTS;
 
 // What counting reports: 0 or 15, and the number of set bits.
 #[repr(C)]
-#[derive(Drop)]
+#[derive(Clone, Copy)]
 pub struct Counted {
     pub answer: u16,
     pub count: u16,

@@ -1,5 +1,7 @@
 // The calls of the reserve on a table alone, and what they report, as values. What each call answers and leaves is defined in specs/, and
 // proofs/ has the theorems about it.
+#![tactic(auto)]
+
 ghost use Rattle.std.specs.Prelude.{◌≡◌, List, ℕ, ◌<◌};
 ghost use Rattle.rules.specs.Step.{refused as Step·refused};
 ghost use Rattle.rules.specs.Call.{tenant_of, least_entries};
@@ -8,7 +10,7 @@ ghost use Rattle.rules.specs.Value.{call_of, number_of, node_in, Gives};
 use plans::Plan;
 
 // What a call reports: done, with the node that its tenant has now or gave up (0 for an opening), or the number of its refusal.
-#[derive(Drop)]
+#[derive(Clone, Copy)]
 pub enum Answer {
     Done { node: u16 },
     Refused { number: u16 },
@@ -37,7 +39,7 @@ impl Answer {
 }
 
 // A grant by level or by pages, a release, or a growth up or down.
-#[derive(Drop)]
+#[derive(Clone, Copy)]
 pub enum Call {
     GrantLevel { tenant: u16, level: u16 },
     GrantPages { tenant: u16, pages: u16 },
@@ -81,7 +83,7 @@ impl Call {
 }
 
 // What a call reports: its answer, and the moves that it made.
-#[derive(Drop)]
+#[derive(Clone, Copy)]
 pub struct Called {
     pub answer: Answer,
     pub plan: Plan,

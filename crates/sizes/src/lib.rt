@@ -1,4 +1,6 @@
 // The level that a number of pages takes.
+#![tactic(auto)]
+
 ghost use Rattle.std.specs.Prelude.{◌≡◌};
 ghost use Rattle.sizes.specs.Level.{least_level, level_for};
 

@@ -1,5 +1,7 @@
 // Which of some movers are staged, where they wait for one another, and who goes next. A mover is a number below n, and a group of them is a
 // number too, with the binary digit for 2^k set if mover k is in it.
+#![tactic(auto)]
+
 ghost use Rattle.std.specs.Prelude.{◌≡◌, cond, ◌+◌, ◌*◌, ◌^◌, ◌≤◌, ◌<◌, eqb};
 ghost use Rattle.std.specs.Int.Bits.{bit_and, bit_or};
 ghost use Rattle.staging.specs.Graph.{joined, away};
@@ -10,7 +12,7 @@ ghost use Rattle.staging.specs.Choice.{free_of, cheaper_of, better_of, chosen_of
 pub const MOST: usize = 7;
 
 // Movers by falling tenant number: how many there are, the group that each waits for, and its pages.
-#[derive(Drop)]
+#[derive(Clone, Copy)]
 pub struct Movers {
     pub n: usize,
     pub waits: [u8; MOST],
@@ -143,7 +145,7 @@ fn cost(movers: Movers, group: u8) -> u32
 }
 
 // A group, and what it costs to stage it.
-#[derive(Drop)]
+#[derive(Clone, Copy)]
 struct Priced {
     group: u8,
     cost: u32,

@@ -1,4 +1,6 @@
 // One look at a lent table: whether it is in order, how many blocks each level has, and who holds which node.
+#![tactic(auto)]
+
 ghost use Rattle.std.specs.Prelude.{◌≡◌, ℕ, ◌+◌, ◌^◌, ◌≤◌, ◌<◌, length, get_or, replicate};
 ghost use Rattle.tree.specs.Pages.{sum};
 ghost use Rattle.layout.specs.Layout.{pages};
@@ -12,7 +14,7 @@ use table::NODES;
 use table::passes::{level_counts, owners, used};
 
 // What a survey finds: whether the table is in order, and how many nodes of each level are held.
-#[derive(Drop)]
+#[derive(Clone, Copy)]
 pub struct Finding {
     pub in_order: bool,
     pub counts: Counts,

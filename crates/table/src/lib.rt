@@ -1,4 +1,6 @@
 // The table of tenants: what it holds, whether it is in order, and who goes where when the layout changes.
+#![tactic(auto)]
+
 
 pub mod passes;
 
@@ -9,7 +11,7 @@ pub const NODES: usize = 8192;
 pub const TENANTS: usize = 4096;
 
 // A tenant that moves: its number, its old node and its new one, and 1 if it is staged, else 0.
-#[derive(Drop)]
+#[derive(Clone, Copy)]
 pub struct Move {
     pub tenant: u16,
     pub from: u16,

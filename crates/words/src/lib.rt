@@ -1,4 +1,6 @@
 // The words of programs: what they say on standard error, the name of a file until it is whole, and what a word of the command line means.
+#![tactic(auto)]
+
 ghost use Rattle.std.specs.Prelude.{◌≡◌, ◌++◌, ◌≤◌, min, length};
 ghost use Rattle.lines.specs.Decimal.{decimal};
 ghost use Rattle.words.specs.Reason.{reason};
@@ -10,7 +12,7 @@ use lines::text::Text;
 use refusal::{CUT_OFF, HEIGHT, NO_OPEN, OPEN_AGAIN, TOO_LONG, UNKNOWN_KIND};
 
 // What a word of the command line means, as long as the options have not ended.
-#[derive(Drop)]
+#[derive(Clone, Copy)]
 pub enum Word {
     // The name of a file, or `-`.
     Operand,
