@@ -112,6 +112,7 @@ run_backed A l s c f r i x h = rw i.of_level (run_solid A l s c f r x (omega ari
 
 lone_backed : {A : Blocks} {l : ℕ} {s : State} {b : Block} → Placed A l s → LoneOf s b → Backed A b
 lone_backed (lone_placed t o) (lone_of g) x h = rw (same_level g) (o x (omega (arith, same_index g)))
+lone_backed {A = A} {l = l} {b = b} (full_placed {u = u} _) x10 x h = elim x10 [ ]
 
 layout_from_backed : (A : Blocks) (l : ℕ) (s : State) (cs : List ℕ) → AtLevel l s → Filled A l s
     → ((b : Block) → Member b (layout_from l s cs) → A b ≡ true) → {b : Block} → Member b (layout_from l s cs) → Backed A b

@@ -49,6 +49,7 @@ layout_chain cs = layout_from_chain 0 cs (full_at {u = 0})
 pub chain_first : {p : ℕ} {bs : List Block} {b : Block} → Chain p bs → Member b bs → p ≤ first b
 chain_first (cons q c) (here e) = let f = same_first e in omega arith
 chain_first (cons {b = x} q c) (later m) = let r = chain_first c m in let z = first_lt_past x in omega arith
+chain_first {b = b} (nil {p = p}) x4 = elim x4 [ ]
 
 -- of two blocks of a chain one ends before the other begins, or they are the same
 pub chain_meet : {p : ℕ} {bs : List Block} {a b : Block} → Chain p bs → Member a bs → Member b bs → Meet a b → a ≡ b
@@ -56,6 +57,7 @@ chain_meet (cons q c) (here e) (here f) h = e ∙ sym f
 chain_meet (cons q c) (here e) (later n) h = let r = chain_first c n in let f = same_past e in absurd (omega arith)
 chain_meet (cons q c) (later m) (here e) h = let r = chain_first c m in let f = same_past e in absurd (omega arith)
 chain_meet (cons q c) (later m) (later n) h = chain_meet c m n h
+chain_meet {a = a} {b = b} (nil {p = p}) x10 _ h = elim x10 [ ]
 
 pub layout_legal : (cs : List ℕ) → BLegal (among (layout cs))
 layout_legal cs a b p q h = chain_meet (layout_chain cs) (among_member (layout cs) a p) (among_member (layout cs) b q) h

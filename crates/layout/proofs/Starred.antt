@@ -32,7 +32,7 @@ pub record Good (s : Sample) : Type 0 where
   pub counts : (l : ℕ) → sizes s.height (listed s.nodes) l ≡ get_or s.counts l 0
   pub layout : map (node s.height) (layout s.counts) ≡ s.nodes
 
-member_listed : (h : ℕ) {bs : List Block} {b : Block} → Member b bs → listed (map (node h) bs) (node h b) ≡ true
+member_listed : (h : ℕ) {b : Block} {bs : List Block} → Member b bs → listed (map (node h) bs) (node h b) ≡ true
 member_listed h {b = b} (here {x = a} {xs = bs} e) =
     ap (λ (t : Bool). t || listed (map (node h) bs) (node h b)) (eq-eqb (node h a) (node h b) (ap (node h) (sym e)))
 member_listed h {b = b} (later {x = a} {xs = bs} m) =
@@ -107,6 +107,7 @@ passed_good s e =
 all_good : (ss : List Sample) → all_pass ss ≡ true → (s : Sample) → Member s ss → Good s
 all_good (a ∷ ss) e s (here p) = subst Good (sym p) (passed_good a (both_left (passes a) (all_pass ss) e))
 all_good (a ∷ ss) e s (later m) = all_good ss (both_right (passes a) (all_pass ss) e) s m
+all_good [] e s x'' = elim x'' [ ]
 
 pub starred_layouts : (s : Sample) → Member s starred → Good s
 unfolding layout pages

@@ -19,6 +19,7 @@ lone_unique (lone_of p) (lone_of q) = p ∙ sym q
 
 lone_not_higher : {l : ℕ} {s : State} {b : Block} → AtLevel l s → LoneOf s b → b.level ≤ l
 lone_not_higher (lone_at e) (lone_of g) = omega (arith, same_level g)
+lone_not_higher {l = l} {b = b} (full_at {u = u}) x4 = elim x4 [ ]
 
 -- The levels of what follows from level l on
 
@@ -39,6 +40,7 @@ rise_least (lone_settles p) (lone_least h) = full_least
 
 lone_at_least : {n : ℕ} {s : State} {b : Block} → AtLeast n s → LoneOf s b → n ≤ b.level
 lone_at_least (lone_least h) (lone_of g) = omega (arith, same_level g)
+lone_at_least {n = n} {b = b} (full_least {u = u}) x3 = elim x3 [ ]
 
 levels_at_least : (n l : ℕ) (s : State) (cs : List ℕ) {b : Block} → n ≤ l → AtLeast n s → Member b (layout_from l s cs) → n ≤ b.level
 levels_at_least n l s [] h a m = lone_at_least a (remaining_lone s m)

@@ -73,6 +73,7 @@ lone_within h l p (lone_at e) (lone_tight q r) f (lone_of {v = v} {j = j} {k = k
         let begins_0 : v * 2 ^ l ≤ 0 * 2 ^ l = mul-le-mul_right (2 ^ l) (omega arith) in
         let at = lone_pages l v j k e in
         rw (same_past g) (omega arith)
+lone_within h l p {b = b} (full_at {u = u}) _ f x11 = elim x11 [ ]
 
 run_within : (h l p : ℕ) (s : State) (c : ℕ) {b : Block}
     → Tight l p s → p + c * 2 ^ l ≤ 2 ^ h → InRun l (start s) (running s c) b → past b ≤ 2 ^ h

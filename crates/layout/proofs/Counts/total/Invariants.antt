@@ -1,0 +1,28 @@
+-- `layout::Counts::total` meets its contract: at each level the sum and the pages from there on make all of them.
+use mathlib.Core.Path.{◌≡◌, refl}
+use mathlib.Core.List.{List}
+use Prim.Native.Nat.{ℕ, ◌+◌, ◌-◌, ◌*◌, ◌^◌, ◌≤◌, ◌<◌}
+use native.Mathlib.Nat.{mul-le-mul_right, pow-suc}
+use native.Mathlib.Numerals.{add-one}
+use native.Mathlib.Omega.{arith}
+use borrow.Author.Rules.{rules}
+use lib.ListN.{length, get_or, drop, drop_of_length-le}
+use mir.Syntax.{w16, w32}
+use mir.Val.{Fits}
+use Rattle.layout.specs.Layout.{pages, pages_from}
+use Rattle.layout.proofs.Bounds.{power_le_4096}
+use Rattle.layout.proofs.Counting.{pages_from_level}
+use Rattle.layout.proofs.Counts.total.Given as goal
+
+-- before level l the sum has the pages of the levels below, each with at most 65,535 blocks
+pub record Summed (cs : List ℕ) (sum size l : ℕ) : Type 0 where
+  pub inside : l ≤ 13
+  pub size_is : size ≡ 2 ^ l
+  pub rest : sum + pages_from l (drop l cs) ≡ pages cs
+  pub bound : sum + 65535 ≤ 65535 * 2 ^ l
+
+abbrev pub invariant-loop-level : goal.invariant-loop-level
+invariant-loop-level l = Summed l.at l.sum l.size l.level
+
+abbrev pub decreases-loop-level : goal.decreases-loop-level
+decreases-loop-level l = 13 - l.level
