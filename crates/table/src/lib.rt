@@ -1,7 +1,6 @@
 // The table of tenants: what it holds, whether it is in order, and who goes where when the layout changes.
 #![tactic(auto)]
 
-
 pub mod passes;
 
 // How many nodes a reserve of the greatest height has, and 0, which is none: the length of an array by node.
