@@ -136,6 +136,7 @@ module _ (p : ℕ → Bool) (a : ℕ) where
       omega arith
   best_le x (c ∷ cs) q e (in_Tail m) =
       omega (arith, better_le_best p a c (best_of p a cs), best_le x cs q e m)
+  best_le x [] q e x4 = elim x4 [ ]
 
 -- ---- seven tries
 

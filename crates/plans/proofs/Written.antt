@@ -44,6 +44,7 @@ written_at T (x ∷ ms) d m (at_head e) q =
     written_beside (set T x.tenant x.to) ms m.tenant (λ k. d.0 (rw (ap (λ (y : Move). y.tenant) e) at k))
     ∙ rw (← e) (get_or-set_same T m.tenant m.to 0 q)
 written_at T (x ∷ ms) d m (in_Tail k) q = written_at (set T x.tenant x.to) ms d.1 m k (rw (length-set T x.tenant x.to) q)
+written_at T [] d m x3 q = elim x3 [ ]
 
 in_list? : (t : ℕ) (ts : List ℕ) → Dec (In t ts)
 in_list? t [] = no not-nil

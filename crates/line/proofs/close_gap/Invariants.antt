@@ -1,0 +1,15 @@
+-- `line::close_gap` meets its contract. The loop's invariant: the numbers up to i are copied. The measure is what is left.
+use mathlib.Core.Path.{◌≡◌, sym, ◌∙◌}
+use Prim.Native.Nat.{◌+◌, ◌-◌, ◌≤◌}
+use native.Mathlib.Omega.{arith}
+use borrow.Author.Rules.{rules}
+use lib.ListN.{length, drop, length-set}
+use lib.Seq.{paste}
+use Rattle.line.proofs.Gap.{copied_none, copied_more, copied_all}
+use Rattle.line.proofs.close_gap.Given as goal
+
+abbrev pub invariant-loop-i : goal.invariant-loop-i
+invariant-loop-i l = (l.from ≤ l.i) × (l.i ≤ 190) × (l.line ≡ paste l.initial.line l.from (drop (l.from + 3) l.initial.line) (l.i - l.from)) × (length l.line ≡ 193)
+
+abbrev pub decreases-loop-i : goal.decreases-loop-i
+decreases-loop-i l = 190 - l.i
