@@ -1,3 +1,2 @@
 // What happened to a line, and who waits by that.
 #![tactic(auto)]
-
