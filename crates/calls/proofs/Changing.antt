@@ -117,7 +117,7 @@ module _ (h : ℕ) (T : List ℕ) where
 
 -- what a survey shows of a table in order
 pub looked : {h : ℕ} {T o : List ℕ} {r : Finding} → Surveyed h T o r → r.in_order ≡ true → Looked h T r.counts.at o
-looked found seen = record { in_order = sym found.in_order ∙ seen; counts = found.counts seen; owners = found.owners seen }
+looked found seen = record { in_order = sym found.order_tested ∙ seen; counts = found.counts seen; owners = found.owners seen }
 
 -- what holds of the table's own counts and owners holds of those that were looked up, and the other way round
 module _ {h : ℕ} {T cs o : List ℕ} (P : List ℕ → List ℕ → Type 0) (l : Looked h T cs o) where
