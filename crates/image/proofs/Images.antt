@@ -9,7 +9,7 @@ use lib.ListN.{length, get_or, take, drop, set, replicate, length-append, length
 use lib.Seq.{take_all, drop-cons, drop-drop, take-suc, take-suc-set, take_at, length-take-le, drop-append-add, sets, sets-eq}
 use Rattle.plans.specs.Plan.{no_move}
 use Rattle.table.specs.declared.Move.{Move}
-use Rattle.journal.specs.Format.{low, high, word, word_at}
+use Rattle.journal.specs.Format.{low, high, word_at}
 use Rattle.journal.proofs.Fields.{word_low_high, low_word, high_word}
 use Rattle.journal.specs.Journal.{Bytes}
 use Rattle.image.specs.Image.{image_of, numbers_in, lent_as, numbers_of, move_bytes}

@@ -1,0 +1,6 @@
+-- `text::Text::letter` meets its contract: a field is a space and its bytes.
+use Rattle.lines.proofs.Texts.{grown_field}
+use Rattle.lines.proofs.text.Text.letter.Goals as goal
+
+pub returns : goal.returns
+returns c = grown_field c.push.ensures c.push-2.ensures
