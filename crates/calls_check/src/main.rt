@@ -202,10 +202,9 @@ fn print_admitted(rt: &HostRuntime, admitted: Admitted) {
 }
 
 fn print_moves(rt: &HostRuntime, plan: Plan) {
-    let moves = plan.moves;
     print(rt, plan.n);
-    for i in 0..7 {
-        print_move(rt, moves[i]);
+    for m in &plan.moves {
+        print_move(rt, *m);
     }
 }
 
@@ -225,10 +224,8 @@ fn print_move(rt: &HostRuntime, m: Move) {
 // The numbers that are not 0.
 fn show(rt: &HostRuntime, table: &[u16]) {
     text(rt, b"=");
-    let mut tenant = 0;
-    while tenant < table.len() {
-        print_entry(rt, tenant, table[tenant]);
-        tenant += 1;
+    for (tenant, node) in table.iter().enumerate() {
+        print_entry(rt, tenant, *node);
     }
     text(rt, b"\n");
 }

@@ -243,10 +243,8 @@ fn print_written(rt: &HostRuntime, done: Written, out: &[u8]) {
 }
 
 fn print_bytes(rt: &HostRuntime, bytes: &[u8]) {
-    let mut i: usize = 0;
-    while i < bytes.len() {
-        print_byte(rt, bytes[i]);
-        i = i + 1;
+    for byte in bytes {
+        print_byte(rt, *byte);
     }
 }
 
