@@ -14,63 +14,64 @@ use table::Move;
 // The height of the reserve.
 const HEIGHT: u16 = 3;
 
-fn main() {
-    table_lengths();
-    line_lengths();
+fn main(rt: HostRuntime) {
+    table_lengths(&rt);
+    line_lengths(&rt);
 }
 
 // Tables of 4,095, 4,096 and 4,097 entries.
-fn table_lengths() {
-    text(b"# tables of 4,095 entries, 4,096 and 4,097\n");
+fn table_lengths(rt: &HostRuntime) {
+    text(rt, b"# tables of 4,095 entries, 4,096 and 4,097\n");
     let mut short = [0u16; 4097];
     short[1] = 9;
-    on_empty_line(&mut short[..4095]);
+    on_empty_line(rt, &mut short[..4095]);
     let mut right = [0u16; 4097];
     right[1] = 9;
-    on_empty_line(&mut right[..4096]);
+    on_empty_line(rt, &mut right[..4096]);
     let mut long = [0u16; 4097];
     long[1] = 9;
-    on_empty_line(&mut long);
+    on_empty_line(rt, &mut long);
 }
 
-fn on_empty_line(table: &mut [u16]) {
+fn on_empty_line(rt: &HostRuntime, table: &mut [u16]) {
     let mut numbers = [0u16; NUMBERS];
-    every_call(table, &mut numbers);
-    show(table);
+    every_call(rt, table, &mut numbers);
+    show(rt, table);
 }
 
 // Lines of 192, 193 and 194 numbers.
-fn line_lengths() {
-    text(b"# lines of 192 numbers, 193 and 194\n");
+fn line_lengths(rt: &HostRuntime) {
+    text(rt, b"# lines of 192 numbers, 193 and 194\n");
     let mut short = [0u16; 194];
     short[1] = 9;
-    on_empty_table(&mut short[..192]);
+    on_empty_table(rt, &mut short[..192]);
     let mut right = [0u16; 194];
     right[1] = 9;
-    on_empty_table(&mut right[..193]);
+    on_empty_table(rt, &mut right[..193]);
     let mut long = [0u16; 194];
     long[1] = 9;
-    on_empty_table(&mut long);
+    on_empty_table(rt, &mut long);
 }
 
-fn on_empty_table(line: &mut [u16]) {
+fn on_empty_table(rt: &HostRuntime, line: &mut [u16]) {
     let mut space = [0u16; 4096];
-    every_call(&mut space, line);
-    show(line);
+    every_call(rt, &mut space, line);
+    show(rt, line);
 }
 
 // Every kind of call, from the opening on, and one with three entries for its moves. A table or a line of another length is left as it is,
 // with a 9 in it; a release and a growth take no line.
-fn every_call(table: &mut [u16], line: &mut [u16]) {
-    open(table, line);
-    grant(table, line, 3);
-    grant(table, line, 4);
-    with_line(table, line);
-    without_line(table, line);
+fn every_call(rt: &HostRuntime, table: &mut [u16], line: &mut [u16]) {
+    open(rt, table, line);
+    grant(rt, table, line, 3);
+    grant(rt, table, line, 4);
+    with_line(rt, table, line);
+    without_line(rt, table, line);
 }
 
-fn with_line(table: &mut [u16], line: &mut [u16]) {
+fn with_line(rt: &HostRuntime, table: &mut [u16], line: &mut [u16]) {
     direct(
+        rt,
         table,
         line,
         4,
@@ -79,13 +80,14 @@ fn with_line(table: &mut [u16], line: &mut [u16]) {
             pages: 1,
         },
     );
-    join(table, line, 3, 0);
-    admit(table, line);
-    withdraw(table, line, 3);
+    join(rt, table, line, 3, 0);
+    admit(rt, table, line);
+    withdraw(rt, table, line, 3);
 }
 
-fn without_line(table: &mut [u16], line: &mut [u16]) {
+fn without_line(rt: &HostRuntime, table: &mut [u16], line: &mut [u16]) {
     direct(
+        rt,
         table,
         line,
         7,
@@ -94,17 +96,18 @@ fn without_line(table: &mut [u16], line: &mut [u16]) {
             level: 0,
         },
     );
-    direct(table, line, 4, Call::Release { tenant: 1 });
+    direct(rt, table, line, 4, Call::Release { tenant: 1 });
 }
 
-fn open(table: &mut [u16], line: &mut [u16]) {
+fn open(rt: &HostRuntime, table: &mut [u16], line: &mut [u16]) {
     let answer = admission::open(HEIGHT, table, line);
-    print_unsized(b"O ", HEIGHT);
-    print_answer(answer);
+    print_unsized(rt, b"O ", HEIGHT);
+    print_answer(rt, answer);
 }
 
-fn grant(table: &mut [u16], line: &mut [u16], entries: usize) {
+fn grant(rt: &HostRuntime, table: &mut [u16], line: &mut [u16], entries: usize) {
     direct(
+        rt,
         table,
         line,
         entries,
@@ -116,134 +119,132 @@ fn grant(table: &mut [u16], line: &mut [u16], entries: usize) {
 }
 
 // Runs a call on a lent list of moves: `perform_by_value` lends one of seven entries to `perform`, unless fewer than the call takes are asked for.
-fn direct(table: &mut [u16], line: &mut [u16], entries: usize, call: Call) {
+fn direct(rt: &HostRuntime, table: &mut [u16], line: &mut [u16], entries: usize, call: Call) {
     let admitted = perform_by_value(HEIGHT, table, line, entries, Request::Direct { call });
-    print_call(call);
-    print_admitted(admitted);
+    print_call(rt, call);
+    print_admitted(rt, admitted);
 }
 
-fn admit(table: &mut [u16], line: &mut [u16]) {
+fn admit(rt: &HostRuntime, table: &mut [u16], line: &mut [u16]) {
     let admitted = perform_by_value(HEIGHT, table, line, 4, Request::Admit);
     let named = admitted.named;
-    print_named(named);
-    print_admitted(admitted);
+    print_named(rt, named);
+    print_admitted(rt, admitted);
 }
 
-fn join(table: &[u16], line: &mut [u16], tenant: u16, level: u16) {
+fn join(rt: &HostRuntime, table: &[u16], line: &mut [u16], tenant: u16, level: u16) {
     let answer = admission::join(HEIGHT, table, line, tenant, level);
-    print_sized(b"W ", tenant, level);
-    print_answer(answer);
+    print_sized(rt, b"W ", tenant, level);
+    print_answer(rt, answer);
 }
 
-fn withdraw(table: &[u16], line: &mut [u16], tenant: u16) {
+fn withdraw(rt: &HostRuntime, table: &[u16], line: &mut [u16], tenant: u16) {
     let answer = admission::withdraw(HEIGHT, table, line, tenant);
-    print_unsized(b"X ", tenant);
-    print_answer(answer);
+    print_unsized(rt, b"X ", tenant);
+    print_answer(rt, answer);
 }
 
 // A call's kind, tenant, and level or pages.
-fn print_call(call: Call) {
+fn print_call(rt: &HostRuntime, call: Call) {
     match call {
-        Call::GrantLevel { tenant, level } => print_sized(b"G ", tenant, level),
-        Call::GrantPages { tenant, pages } => print_sized(b"P ", tenant, pages),
-        Call::Release { tenant } => print_unsized(b"R ", tenant),
-        Call::Grow { tenant, level } => print_sized(b"Z ", tenant, level),
+        Call::GrantLevel { tenant, level } => print_sized(rt, b"G ", tenant, level),
+        Call::GrantPages { tenant, pages } => print_sized(rt, b"P ", tenant, pages),
+        Call::Release { tenant } => print_unsized(rt, b"R ", tenant),
+        Call::Grow { tenant, level } => print_sized(rt, b"Z ", tenant, level),
     }
 }
 
-fn print_sized(kind: &[u8], tenant: u16, size: u16) {
-    text(kind);
-    print(tenant as usize);
-    text(b" ");
-    print(size as usize);
+fn print_sized(rt: &HostRuntime, kind: &[u8], tenant: u16, size: u16) {
+    text(rt, kind);
+    print(rt, tenant as usize);
+    text(rt, b" ");
+    print(rt, size as usize);
 }
 
-fn print_unsized(kind: &[u8], tenant: u16) {
-    text(kind);
-    print(tenant as usize);
-    text(b" -");
+fn print_unsized(rt: &HostRuntime, kind: &[u8], tenant: u16) {
+    text(rt, kind);
+    print(rt, tenant as usize);
+    text(rt, b" -");
 }
 
 // An admit's kind, and the tenant granted.
-fn print_named(named: Named) {
+fn print_named(rt: &HostRuntime, named: Named) {
     match named {
-        Named::Nobody => text(b"A - -"),
-        Named::Tenant { tenant } => print_unsized(b"A ", tenant),
+        Named::Nobody => text(rt, b"A - -"),
+        Named::Tenant { tenant } => print_unsized(rt, b"A ", tenant),
     }
 }
 
 // What a call reports that answers no node and moves nobody.
-fn print_answer(answer: Answer) {
-    text(b" ");
-    print(answer.number() as usize);
-    text(b" - 0\n");
+fn print_answer(rt: &HostRuntime, answer: Answer) {
+    text(rt, b" ");
+    print(rt, answer.number() as usize);
+    text(rt, b" - 0\n");
 }
 
-fn print_admitted(admitted: Admitted) {
+fn print_admitted(rt: &HostRuntime, admitted: Admitted) {
     let answer = admitted.answer;
     let plan = admitted.plan;
-    text(b" ");
+    text(rt, b" ");
     match answer {
         Answer::Done { node } => {
-            text(b"0 ");
-            print(node as usize);
+            text(rt, b"0 ");
+            print(rt, node as usize);
         }
         Answer::Refused { number } => {
-            print(number as usize);
-            text(b" -");
+            print(rt, number as usize);
+            text(rt, b" -");
         }
     }
-    text(b" ");
-    print_moves(plan);
-    text(b"\n");
+    text(rt, b" ");
+    print_moves(rt, plan);
+    text(rt, b"\n");
 }
 
-fn print_moves(plan: Plan) {
-    let moves = plan.moves;
-    print(plan.n);
-    for i in 0..7 {
-        print_move(moves[i]);
+fn print_moves(rt: &HostRuntime, plan: Plan) {
+    print(rt, plan.n);
+    for m in &plan.moves {
+        print_move(rt, *m);
     }
 }
 
-fn print_move(m: Move) {
-    text(b" ");
-    print(m.tenant as usize);
-    text(b":");
-    print(m.from as usize);
+fn print_move(rt: &HostRuntime, m: Move) {
+    text(rt, b" ");
+    print(rt, m.tenant as usize);
+    text(rt, b":");
+    print(rt, m.from as usize);
     if m.staged == 0 {
-        text(b">");
+        text(rt, b">");
     } else {
-        text(b"=");
+        text(rt, b"=");
     }
-    print(m.to as usize);
+    print(rt, m.to as usize);
 }
 
 // The numbers that are not 0.
-fn show(table: &[u16]) {
-    text(b"=");
-    let mut tenant = 0;
-    while tenant < table.len() {
-        print_entry(tenant, table[tenant]);
-        tenant += 1;
+fn show(rt: &HostRuntime, table: &[u16]) {
+    text(rt, b"=");
+    for (tenant, node) in table.iter().enumerate() {
+        print_entry(rt, tenant, *node);
     }
-    text(b"\n");
+    text(rt, b"\n");
 }
 
-fn print_entry(tenant: usize, node: u16) {
+fn print_entry(rt: &HostRuntime, tenant: usize, node: u16) {
     if node == 0 {
         return;
     }
-    text(b" ");
-    print(tenant);
-    text(b":");
-    print(node as usize);
+    text(rt, b" ");
+    print(rt, tenant);
+    text(rt, b":");
+    print(rt, node as usize);
 }
 
-fn text(bytes: &[u8]) {
-    io::write_all(1, bytes);
+// Writes to standard output. What cannot be written is missing there, and nothing else is said of it.
+fn text(rt: &HostRuntime, bytes: &[u8]) {
+    let _ = rt.write_all(bytes);
 }
 
-fn print(n: usize) {
-    io::print_decimal(1, n as u64);
+fn print(rt: &HostRuntime, n: usize) {
+    let _ = rt.print(n);
 }

@@ -3,84 +3,100 @@
 
 mod file;
 mod message;
+mod output;
+mod system;
 mod whole;
 
-ghost use Rattle.io.specs.Counts.{IsPrefixLen};
-ghost use Rattle.command.specs.Whole.{Within};
+ghost use Rattle.command.specs.Whole.{Counts, Within};
 
 use file::write_file;
 use message::{complain, explain, object, refuse};
+pub use output::{close_output, write_output};
+use std::env::FillError;
+use std::io::Read;
+use std::rt::Env;
 pub use whole::Input;
-use whole::{read_all, write_all};
+use whole::read_all;
 use words::Word;
 
 // Whether a program that takes up to `most` operands has work to do. The first option among its arguments decides: if it is --help, the
 // help goes to standard output, and any other is named on standard error, before the usage. So is the first operand that is too many.
-pub fn has_work(program: &[u8], usage: &[u8], help: &[u8], most: usize) -> bool {
-    let words = os::arg_count();
-    let end = end_of_operands(words);
-    match meaning_of(end) {
-        Word::Help => give_help(program, help),
-        Word::UnknownOption => object_to(end, b"unknown option", program, usage),
-        _ => has_operands(program, usage, most),
+pub fn has_work(rt: &HostRuntime, program: &[u8], usage: &[u8], help: &[u8], most: usize) -> bool {
+    let words = arg_count(rt);
+    let end = end_of_operands(rt, words);
+    match meaning_of(rt, end) {
+        Word::Help => give_help(rt, program, help),
+        Word::UnknownOption => object_to(rt, end, b"unknown option", program, usage),
+        _ => has_operands(rt, program, usage, most),
     }
 }
 
 // Writes the help to standard output; there is no other work to do.
-fn give_help(program: &[u8], help: &[u8]) -> bool {
-    if write_output(program, help) {
-        close_output(program);
+fn give_help(rt: &HostRuntime, program: &[u8], help: &[u8]) -> bool {
+    if write_output(rt, program, help) {
+        close_output(rt, program);
     }
     false
 }
 
 // Says what is wrong with argument `i`, and how the program is used; there is no other work to do.
-fn object_to(i: usize, fault: &[u8], program: &[u8], usage: &[u8]) -> bool {
-    let mut word = io::buffer();
-    let n = put_word(i, &mut word);
-    object(program, fault, &word[..n], usage);
+fn object_to(rt: &HostRuntime, i: usize, fault: &[u8], program: &[u8], usage: &[u8]) -> bool {
+    let mut word = [0u8; 4096];
+    let n = put_word(rt, i, &mut word);
+    object(rt, program, fault, &word[..n], usage);
     false
 }
 
 // Whether there are up to `most` operands, or names on standard error the first that is too many.
-fn has_operands(program: &[u8], usage: &[u8], most: usize) -> bool {
-    let words = os::arg_count();
+fn has_operands(rt: &HostRuntime, program: &[u8], usage: &[u8], most: usize) -> bool {
+    let words = arg_count(rt);
     if most < words {
-        let surplus = place_of(most + 1);
+        let surplus = place_of(rt, most + 1);
         if surplus < words {
-            return object_to(surplus, b"unexpected argument", program, usage);
+            return object_to(rt, surplus, b"unexpected argument", program, usage);
         }
     }
     true
 }
 
+// How many arguments the program was started with, its own name among them.
+fn arg_count(env: &impl Env) -> usize {
+    let mut none = [0u8; 0];
+    for i in 0..usize::MAX {
+        if let Err(FillError::NotPresent) = env.arg(i, &mut none) {
+            return i;
+        }
+    }
+    usize::MAX
+}
+
 // The first of so many words that is no operand, after the program's name: an option, or `--`. If there is none, that is the first that is missing.
-fn end_of_operands(words: usize) -> usize {
+fn end_of_operands(env: &impl Env, words: usize) -> usize {
     let mut i = 1;
-    while i < words && is_operand(i) {
+    while i < words && is_operand(env, i) {
         i += 1;
     }
     i
 }
 
-fn is_operand(i: usize) -> bool {
-    match meaning_of(i) {
+fn is_operand(env: &impl Env, i: usize) -> bool {
+    match meaning_of(env, i) {
         Word::Operand => true,
         _ => false,
     }
 }
 
 // What argument `i` means if no `--` comes before it. One that is missing is an operand.
-fn meaning_of(i: usize) -> Word {
-    let mut text = io::buffer();
-    let n = put_word(i, &mut text);
+fn meaning_of(env: &impl Env, i: usize) -> Word {
+    let mut text = [0u8; 4096];
+    let n = put_word(env, i, &mut text);
     words::meaning(&text[..n])
 }
 
 // Which argument operand `i` is, one that is missing if there is no such operand: `--` is passed over.
-fn place_of(i: usize) -> usize {
-    let words = os::arg_count();
-    if i < words && i >= end_of_operands(words) {
+fn place_of(env: &impl Env, i: usize) -> usize {
+    let words = arg_count(env);
+    if i < words && i >= end_of_operands(env, words) {
         return i + 1;
     }
     i
@@ -88,31 +104,27 @@ fn place_of(i: usize) -> usize {
 
 // Puts operand `i` at the start of the buffer and answers its length; if there is none, `-`, which names standard input. The operands are the
 // arguments but for the first `--`, behind which none is an option.
-pub fn argument(i: usize, text: &mut [u8]) -> usize
-    ensures { IsPrefixLen result text.new }
+pub fn argument(env: &impl Env, i: usize, text: &mut [u8]) -> usize
+    ensures { Counts result text.new }
 {
-    put_word(place_of(i), text)
+    put_word(env, place_of(env, i), text)
 }
 
 // Puts argument `i` at the start of the buffer and answers its length, or `-` if there is none. Of an argument that is longer than the buffer come
 // the first 4,096 bytes: no path is so long, so none is taken for another.
-fn put_word(i: usize, text: &mut [u8]) -> usize
-    ensures { IsPrefixLen result text.new }
+fn put_word(env: &impl Env, i: usize, text: &mut [u8]) -> usize
+    ensures { Counts result text.new }
 {
-    let n = os::arg(i, text);
-    let error = os::errno();
-    if error == libc::EINVAL {
-        return put_dash(text);
+    match env.arg(i, text) {
+        Ok(n) => n,
+        Err(FillError::NotPresent) => put_dash(text),
+        Err(FillError::TooLong) => text.len(),
     }
-    if error == libc::ENAMETOOLONG {
-        return text.len();
-    }
-    n
 }
 
 // Puts `-` at the start of the text and answers its length, 0 if the text has no room for it.
 fn put_dash(text: &mut [u8]) -> usize
-    ensures { IsPrefixLen result text.new }
+    ensures { Counts result text.new }
 {
     if text.len() == 0 {
         return 0;
@@ -122,77 +134,76 @@ fn put_dash(text: &mut [u8]) -> usize
 }
 
 // Reads the file of that name, or standard input for `-`, into a lent buffer, as `read_all` does, or says on standard error why it cannot be read.
-pub fn read_input(program: &[u8], name: &[u8], buf: &mut [u8]) -> Input
+pub fn read_input(rt: &HostRuntime, program: &[u8], name: &[u8], buf: &mut [u8]) -> Input
     ensures { Within result buf.new }
 {
-    if check::same(name, b"-") {
-        return read_from(program, libc::STDIN_FILENO, b"standard input", buf);
+    if is_dash(name) {
+        return read_from(rt, program, &mut rt.stdin(), b"standard input", buf);
     }
-    let fd = os::open_read(name);
-    if fd < 0 {
-        complain(program, b"read", name);
-        return Input::Failed;
+    match system::open(rt, name) {
+        Ok(mut file) => read_from(rt, program, &mut file, name, buf),
+        Err(reason) => {
+            complain(rt, program, b"read", name, reason);
+            Input::Failed
+        }
     }
-    let input = read_from(program, fd, name, buf);
-    libc::close(fd);
-    input
 }
 
-fn read_from(program: &[u8], fd: i32, name: &[u8], buf: &mut [u8]) -> Input
+fn read_from<R: Read>(
+    rt: &HostRuntime,
+    program: &[u8],
+    source: &mut R,
+    name: &[u8],
+    buf: &mut [u8],
+) -> Input
     ensures { Within result buf.new }
 {
-    let input = read_all(fd, buf);
-    match input {
-        Input::Whole(_) => {}
-        Input::Failed => complain(program, b"read", name),
+    match read_all(source, buf) {
+        Ok(n) => Input::Whole(n),
+        Err(reason) => {
+            complain(rt, program, b"read", name, reason);
+            Input::Failed
+        }
     }
-    input
+}
+
+// Whether the name stands for standard input or output.
+fn is_dash(name: &[u8]) -> bool {
+    name == b"-".as_slice()
 }
 
 // Says on standard error why the listing of the journal in the file of that name, or on standard input for `-`, has ended.
-pub fn explain_end(program: &[u8], name: &[u8], number: u16, offset: usize) {
-    if check::same(name, b"-") {
-        explain(program, b"standard input", number, offset);
+pub fn explain_end(rt: &HostRuntime, program: &[u8], name: &[u8], number: u16, offset: usize) {
+    if is_dash(name) {
+        explain(rt, program, b"standard input", number, offset);
         return;
     }
-    explain(program, name, number, offset);
+    explain(rt, program, name, number, offset);
 }
 
 // Says on standard error why nothing is done with the journal in the file of that name, or on standard input for `-`.
-pub fn refuse_input(program: &[u8], deed: &[u8], name: &[u8], number: u16, offset: usize) {
-    if check::same(name, b"-") {
-        refuse(program, deed, b"standard input", number, offset);
+pub fn refuse_input(
+    rt: &HostRuntime,
+    program: &[u8],
+    deed: &[u8],
+    name: &[u8],
+    number: u16,
+    offset: usize,
+) {
+    if is_dash(name) {
+        refuse(rt, program, deed, b"standard input", number, offset);
         return;
     }
-    refuse(program, deed, name, number, offset);
+    refuse(rt, program, deed, name, number, offset);
 }
 
 // Writes all of the bytes to the file of that name, as `write_file` does, or to standard output for `-`, which it then closes.
-pub fn write_to(program: &[u8], name: &[u8], bytes: &[u8]) {
-    if !check::same(name, b"-") {
-        write_file(program, name, bytes);
+pub fn write_to(rt: &HostRuntime, program: &[u8], name: &[u8], bytes: &[u8]) {
+    if !is_dash(name) {
+        write_file(rt, program, name, bytes);
         return;
     }
-    if write_output(program, bytes) {
-        close_output(program);
+    if write_output(rt, program, bytes) {
+        close_output(rt, program);
     }
-}
-
-// Writes all of the bytes to standard output, or says on standard error why they cannot be written.
-pub fn write_output(program: &[u8], bytes: &[u8]) -> bool {
-    let written = write_all(libc::STDOUT_FILENO, bytes);
-    if !written {
-        complain(program, b"write", b"standard output");
-    }
-    written
-}
-
-// Closes standard output and answers true, or says on standard error that it fails: some systems tell only then that a write failed. If it was
-// closed from the start, whoever wrote to it has been told.
-pub fn close_output(program: &[u8]) -> bool {
-    if libc::close(libc::STDOUT_FILENO) < 0 && os::errno() != libc::EBADF {
-        complain(program, b"write", b"standard output");
-        return false;
-    }
-    true
 }

@@ -7,8 +7,7 @@ use native.Mathlib.Numerals.{add-one}
 use native.Mathlib.Omega.{arith}
 use lib.ListN.{length, get_or, drop, set, replicate, length-replicate, get_or-replicate}
 use lib.Seq.{paste, paste-zero, paste-suc, take-length, get_or-append-add}
-use Rattle.libc.specs.Io.{Ended}
-use Rattle.file_kinds.specs.Path.{padded}
+use Rattle.file_kinds.specs.Path.{padded, Ended}
 
 drop_replicate : (k n a : ℕ) → drop k (replicate n a) ≡ replicate (n - k) a
 drop_replicate zero n a = ap (λ (m : ℕ). replicate m a) (sym (sub-zero n))

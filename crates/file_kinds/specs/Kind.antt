@@ -1,6 +1,7 @@
 -- The kind of a file by its mode.
-use Rattle.std.specs.Prelude.{cond, ℕ, ◌/◌, ◌%◌, eqb, ℤ, pos}
-use Rattle.std.specs.Int.Signed.{lt_z}
+use Rattle.std.specs.Prelude.{cond, ℕ, ◌/◌, ◌%◌, eqb, Result, Ok, Err}
+use Rattle.std.specs.Fs.{metadata_mode}
+use Rattle.std.specs.declared.fs.attrs.Metadata.{Metadata}
 use Rattle.file_kinds.specs.declared.FileKind.{FileKind}
 
 -- The kind by the file type, in octal 04 for a directory, 010 for a regular file and 012 for a link (POSIX's S_IFDIR, S_IFREG and S_IFLNK).
@@ -17,6 +18,7 @@ of_type t =
 abbrev pub kind_of : ℕ → FileKind
 kind_of mode = of_type (mode / 4096 % 16)
 
--- the mode that a call told, or 0 where it failed, with a status below 0
-abbrev pub told_mode : ℤ → ℕ → ℕ
-told_mode status mode = cond (lt_z status (pos 0)) 0 mode
+-- the mode that a call told, or 0 where it failed
+abbrev pub told_mode : {E : Type 0} → Result Metadata E → ℕ
+told_mode (Ok told) = metadata_mode told
+told_mode (Err e) = 0

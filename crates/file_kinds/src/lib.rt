@@ -2,11 +2,14 @@
 #![tactic(auto)]
 
 ghost use Rattle.std.specs.Prelude.{◌≡◌, ◌<◌, length};
-ghost use Rattle.libc.specs.Io.{Ended};
 ghost use Rattle.file_kinds.specs.Kind.{kind_of, told_mode};
-ghost use Rattle.file_kinds.specs.Path.{padded};
+ghost use Rattle.file_kinds.specs.Path.{padded, Ended};
 
-use libc::{PATH_MAX, types};
+use std::ffi::CStr;
+use std::fs::Metadata;
+use std::os::unix::fs::MetadataExt;
+use std::rt::Files;
+use std::{fs, io};
 
 // Nothing, a regular file, a directory, a symbolic link, or something else: a device, a FIFO or a socket.
 #[derive(Clone, Copy)]
@@ -18,20 +21,24 @@ pub enum FileKind {
     Other,
 }
 
-// The file types of a mode: its four bits above the twelve of the permissions (libc::S_IFMT).
-const DIRECTORY: u32 = libc::S_IFDIR / 4096;
+// The bytes that C takes of a path, with the 0 that ends it (PATH_MAX).
+const PATH_MAX: usize = 4096;
 
-const REGULAR: u32 = libc::S_IFREG / 4096;
+// The file types of a mode: its four bits above the twelve of the permissions (S_IFMT).
+const DIRECTORY: u32 = 0o040000 / 4096;
 
-const LINK: u32 = libc::S_IFLNK / 4096;
+const REGULAR: u32 = 0o100000 / 4096;
 
-// What has that name; of a link, the link itself. Nothing also where the system does not tell. A path holds no 0, as no argument of a program does.
-pub fn kind_at(path: &[u8]) -> FileKind {
+const LINK: u32 = 0o120000 / 4096;
+
+// What has that name; of a link, the link itself. Nothing also where the system does not tell, as of a name that is no text in UTF-8. A path holds no
+// 0, as no argument of a program does.
+pub fn kind_at(files: &impl Files, path: &[u8]) -> FileKind {
     if path.len() >= PATH_MAX {
         return FileKind::Nothing;
     }
     let path = ended(path);
-    kind_of_mode(mode_at(&path))
+    kind_of_mode(mode_at(files, &path))
 }
 
 // The kind of what has that mode; nothing has 0.
@@ -48,48 +55,24 @@ fn kind_of_mode(mode: u32) -> FileKind
     }
 }
 
-// The mode of what has that name, or 0 where the system does not tell. No contract says what `lstat` writes. A struct is lent here, so the proof is a
-// walk by hand: all that is decided is decided in `told_mode`.
-fn mode_at(path: &[u8; PATH_MAX]) -> u32
+// The mode of what has that name, or 0 where the system does not tell. No contract says what it tells: all that is decided is decided in `told_mode`.
+fn mode_at(files: &impl Files, path: &[u8; PATH_MAX]) -> u32
     requires { Ended path.now }
 {
-    let mut told = nothing_told();
-    let status = libc::lstat(path, &mut told);
-    told_mode(status, told)
+    let path = CStr::from_bytes_until_nul(path).unwrap();
+    let Ok(path) = path.to_str() else {
+        return 0;
+    };
+    told_mode(fs::symlink_metadata(files, path))
 }
 
 // The mode that was told, or 0 where the call failed.
-fn told_mode(status: i32, told: types::stat) -> u32
-    ensures { result ≡ told_mode status told.st_mode }
+fn told_mode(told: io::Result<Metadata>) -> u32
+    ensures { result ≡ told_mode told }
 {
-    if status < 0 {
-        return 0;
-    }
-    told.st_mode
-}
-
-// What a call may fill.
-fn nothing_told() -> types::stat {
-    let never = types::timespec {
-        tv_sec: 0,
-        tv_nsec: 0,
-    };
-    types::stat {
-        st_dev: 0,
-        st_ino: 0,
-        st_nlink: 0,
-        st_mode: 0,
-        st_uid: 0,
-        st_gid: 0,
-        __pad: 0,
-        st_rdev: 0,
-        st_size: 0,
-        st_blksize: 0,
-        st_blocks: 0,
-        st_atim: never,
-        st_mtim: never,
-        st_ctim: never,
-        __unused: [0i64; 3],
+    match told {
+        Ok(told) => told.mode(),
+        Err(_) => 0,
     }
 }
 

@@ -4,123 +4,144 @@
 
 use journal::{Read, Record, Written};
 
-fn main() {
+fn main(rt: HostRuntime) {
     list(
+        &rt,
         b"\x01\x02\x02\x00\x00\x01\x02\x01\x00\x00\x02\x02\x00\x00\x04\x07\x00\x03\x03\x00\x01\x00",
     );
-    kinds();
-    ends();
-    limits();
-    offsets();
-    writes();
+    kinds(&rt);
+    ends(&rt);
+    limits(&rt);
+    offsets(&rt);
+    writes(&rt);
 }
 
 // Every field at its largest; then numbers whose two bytes differ.
-fn kinds() {
+fn kinds(rt: &HostRuntime) {
     list(
+        rt,
         b"\x01\xff\x02\xff\xff\xff\x03\xff\xff\xff\xff\x04\xff\xff\x05\xff\xff\xff\x09\xff\xff\xff\x0a\x0b\xff\xff",
     );
     list(
+        rt,
         b"\x01\x00\x02\x02\x01\x03\x03\x02\x01\x04\x03\x04\x02\x01\x05\x02\x01\x03\x09\x02\x01\x03\x0a\x0b\x02\x01",
     );
 }
 
 // What ends a reading: no journal, another kind first, unknown kinds, a record of each kind that has a body cut off, a second
 // open, whole and cut off. Then an admit, which has none, as the last byte.
-fn ends() {
-    list(b"");
-    list(b"\x02\x00\x00\x01");
-    list(b"\x01\x05\x00\x00");
-    list(b"\x01\x05\x06");
-    list(b"\x01\x05\x07");
-    list(b"\x01\x05\x08");
-    list(b"\x01\x05\x0c");
-    list(b"\x01");
-    list(b"\x01\x05\x02\x00\x00");
-    list(b"\x01\x05\x03\x00\x00\x00");
-    list(b"\x01\x05\x04\x00");
-    list(b"\x01\x05\x05\x00\x00");
-    list(b"\x01\x05\x09\x00\x00");
-    list(b"\x01\x05\x0b\x00");
-    list(b"\x01\x05\x01\x05");
-    list(b"\x01\x05\x01");
-    list(b"\x01\x05\x0a");
+fn ends(rt: &HostRuntime) {
+    list(rt, b"");
+    list(rt, b"\x02\x00\x00\x01");
+    list(rt, b"\x01\x05\x00\x00");
+    list(rt, b"\x01\x05\x06");
+    list(rt, b"\x01\x05\x07");
+    list(rt, b"\x01\x05\x08");
+    list(rt, b"\x01\x05\x0c");
+    list(rt, b"\x01");
+    list(rt, b"\x01\x05\x02\x00\x00");
+    list(rt, b"\x01\x05\x03\x00\x00\x00");
+    list(rt, b"\x01\x05\x04\x00");
+    list(rt, b"\x01\x05\x05\x00\x00");
+    list(rt, b"\x01\x05\x09\x00\x00");
+    list(rt, b"\x01\x05\x0b\x00");
+    list(rt, b"\x01\x05\x01\x05");
+    list(rt, b"\x01\x05\x01");
+    list(rt, b"\x01\x05\x0a");
 }
 
 // The most bytes that a journal has, and one more, with and without an open.
-fn limits() {
+fn limits(rt: &HostRuntime) {
     let mut most = [0u8; 65536];
-    list(&most);
+    list(rt, &most);
     most[0] = 1;
-    list(&most);
+    list(rt, &most);
     let mut more = [0u8; 65537];
-    list(&more);
+    list(rt, &more);
     more[0] = 1;
-    list(&more);
+    list(rt, &more);
 }
 
 // Offsets at a record, inside one, at the end and past it; and past the end of journals that 11 and 16 refuse.
-fn offsets() {
+fn offsets(rt: &HostRuntime) {
     let journal = b"\x01\x02\x04\x07\x00";
-    show(journal, 0);
-    show(journal, 1);
-    show(journal, 2);
-    show(journal, 3);
-    show(journal, 4);
-    show(journal, 5);
-    show(journal, 6);
-    show(journal, 18446744073709551615);
-    show(b"", 1);
-    show(&[1u8; 65537], 65538);
+    show(rt, journal, 0);
+    show(rt, journal, 1);
+    show(rt, journal, 2);
+    show(rt, journal, 3);
+    show(rt, journal, 4);
+    show(rt, journal, 5);
+    show(rt, journal, 6);
+    show(rt, journal, 18446744073709551615);
+    show(rt, b"", 1);
+    show(rt, &[1u8; 65537], 65538);
 }
 
 // A record of each kind in five bytes; then one that just fits in four, and one that does not.
-fn writes() {
-    write_in_5(Record::Open { height: 12 });
-    write_in_5(Record::GrantLevel {
-        tenant: 258,
-        level: 3,
-    });
-    write_in_5(Record::GrantPages {
-        tenant: 258,
-        pages: 772,
-    });
-    write_in_5(Record::Release { tenant: 4095 });
-    write_in_5(Record::Grow {
-        tenant: 258,
-        level: 3,
-    });
-    write_in_5(Record::Join {
-        tenant: 258,
-        level: 3,
-    });
-    write_in_5(Record::Admit);
-    write_in_5(Record::Withdraw { tenant: 4095 });
-    write_in_4(Record::GrantLevel {
-        tenant: 258,
-        level: 3,
-    });
-    write_in_4(Record::GrantPages {
-        tenant: 258,
-        pages: 772,
-    });
+fn writes(rt: &HostRuntime) {
+    write_in_5(rt, Record::Open { height: 12 });
+    write_in_5(
+        rt,
+        Record::GrantLevel {
+            tenant: 258,
+            level: 3,
+        },
+    );
+    write_in_5(
+        rt,
+        Record::GrantPages {
+            tenant: 258,
+            pages: 772,
+        },
+    );
+    write_in_5(rt, Record::Release { tenant: 4095 });
+    write_in_5(
+        rt,
+        Record::Grow {
+            tenant: 258,
+            level: 3,
+        },
+    );
+    write_in_5(
+        rt,
+        Record::Join {
+            tenant: 258,
+            level: 3,
+        },
+    );
+    write_in_5(rt, Record::Admit);
+    write_in_5(rt, Record::Withdraw { tenant: 4095 });
+    write_in_4(
+        rt,
+        Record::GrantLevel {
+            tenant: 258,
+            level: 3,
+        },
+    );
+    write_in_4(
+        rt,
+        Record::GrantPages {
+            tenant: 258,
+            pages: 772,
+        },
+    );
 }
 
 // The records of a journal, each with its offset, and what ends the reading.
-fn list(journal: &[u8]) {
+fn list(rt: &HostRuntime, journal: &[u8]) {
     let mut offset: usize = 0;
     loop {
         match journal::read_at(journal, offset) {
             Read::Record { record, next } => {
-                print_record(offset, record);
+                print_record(rt, offset, record);
                 offset = next;
             }
             Read::End => {
-                print_end(offset);
+                print_end(rt, offset);
                 return;
             }
             Read::Refused { number, offset: at } => {
-                print_refused(at, number);
+                print_refused(rt, at, number);
                 return;
             }
         }
@@ -128,116 +149,115 @@ fn list(journal: &[u8]) {
 }
 
 // What stands at one offset.
-fn show(journal: &[u8], offset: usize) {
+fn show(rt: &HostRuntime, journal: &[u8], offset: usize) {
     match journal::read_at(journal, offset) {
-        Read::Record { record, next: _ } => print_record(offset, record),
-        Read::End => print_end(offset),
-        Read::Refused { number, offset: at } => print_refused(at, number),
+        Read::Record { record, next: _ } => print_record(rt, offset, record),
+        Read::End => print_end(rt, offset),
+        Read::Refused { number, offset: at } => print_refused(rt, at, number),
     }
 }
 
-fn print_end(offset: usize) {
-    print(offset);
-    text(b" end\n");
+fn print_end(rt: &HostRuntime, offset: usize) {
+    print(rt, offset);
+    text(rt, b" end\n");
 }
 
-fn print_refused(offset: usize, number: u16) {
-    text(b"! ");
-    print(offset);
-    text(b" ");
-    print(number as usize);
-    text(b"\n");
+fn print_refused(rt: &HostRuntime, offset: usize, number: u16) {
+    text(rt, b"! ");
+    print(rt, offset);
+    text(rt, b" ");
+    print(rt, number as usize);
+    text(rt, b"\n");
 }
 
-fn print_record(offset: usize, rec: Record) {
-    print(offset);
+fn print_record(rt: &HostRuntime, offset: usize, rec: Record) {
+    print(rt, offset);
     match rec {
         Record::Open { height } => {
-            text(b" open ");
-            print(height as usize);
+            text(rt, b" open ");
+            print(rt, height as usize);
         }
         Record::GrantLevel { tenant, level } => {
-            text(b" grant ");
-            print(tenant as usize);
-            text(b" level ");
-            print(level as usize);
+            text(rt, b" grant ");
+            print(rt, tenant as usize);
+            text(rt, b" level ");
+            print(rt, level as usize);
         }
         Record::GrantPages { tenant, pages } => {
-            text(b" grant ");
-            print(tenant as usize);
-            text(b" pages ");
-            print(pages as usize);
+            text(rt, b" grant ");
+            print(rt, tenant as usize);
+            text(rt, b" pages ");
+            print(rt, pages as usize);
         }
         Record::Release { tenant } => {
-            text(b" release ");
-            print(tenant as usize);
+            text(rt, b" release ");
+            print(rt, tenant as usize);
         }
         Record::Grow { tenant, level } => {
-            text(b" grow ");
-            print(tenant as usize);
-            text(b" level ");
-            print(level as usize);
+            text(rt, b" grow ");
+            print(rt, tenant as usize);
+            text(rt, b" level ");
+            print(rt, level as usize);
         }
         Record::Join { tenant, level } => {
-            text(b" join ");
-            print(tenant as usize);
-            text(b" level ");
-            print(level as usize);
+            text(rt, b" join ");
+            print(rt, tenant as usize);
+            text(rt, b" level ");
+            print(rt, level as usize);
         }
         Record::Admit => {
-            text(b" admit");
+            text(rt, b" admit");
         }
         Record::Withdraw { tenant } => {
-            text(b" withdraw ");
-            print(tenant as usize);
+            text(rt, b" withdraw ");
+            print(rt, tenant as usize);
         }
     }
-    text(b"\n");
+    text(rt, b"\n");
 }
 
-fn write_in_5(rec: Record) {
+fn write_in_5(rt: &HostRuntime, rec: Record) {
     let mut out = [9u8; 5];
     let done = journal::write(rec, &mut out);
-    print_written(done, &out);
+    print_written(rt, done, &out);
 }
 
-fn write_in_4(rec: Record) {
+fn write_in_4(rt: &HostRuntime, rec: Record) {
     let mut out = [9u8; 4];
     let done = journal::write(rec, &mut out);
-    print_written(done, &out);
+    print_written(rt, done, &out);
 }
 
-fn print_written(done: Written, out: &[u8]) {
+fn print_written(rt: &HostRuntime, done: Written, out: &[u8]) {
     match done {
         Written::Done { length } => {
-            print(length);
+            print(rt, length);
         }
         Written::Refused { number } => {
-            text(b"! ");
-            print(number as usize);
+            text(rt, b"! ");
+            print(rt, number as usize);
         }
     }
-    print_bytes(out);
-    text(b"\n");
+    print_bytes(rt, out);
+    text(rt, b"\n");
 }
 
-fn print_bytes(bytes: &[u8]) {
-    let mut i: usize = 0;
-    while i < bytes.len() {
-        print_byte(bytes[i]);
-        i = i + 1;
+fn print_bytes(rt: &HostRuntime, bytes: &[u8]) {
+    for byte in bytes {
+        print_byte(rt, *byte);
     }
 }
 
-fn print_byte(byte: u8) {
-    text(b" ");
-    print(byte as usize);
+fn print_byte(rt: &HostRuntime, byte: u8) {
+    text(rt, b" ");
+    print(rt, byte as usize);
 }
 
-fn text(bytes: &[u8]) {
-    io::write_all(1, bytes);
+// Writes to standard output. What cannot be written is missing there, and nothing else is said of it.
+fn text(rt: &HostRuntime, bytes: &[u8]) {
+    let _ = rt.write_all(bytes);
 }
 
-fn print(n: usize) {
-    io::print_decimal(1, n as u64);
+fn print(rt: &HostRuntime, n: usize) {
+    let _ = rt.print(n);
 }

@@ -4,21 +4,24 @@
 
 use layout::Counts;
 
-const OUT: i32 = 1;
-
-fn number(n: u16) {
-    io::print_decimal(OUT, n as u64);
+// Writes to standard output. What cannot be written is missing there, and nothing else is said of it.
+fn text(rt: &HostRuntime, bytes: &[u8]) {
+    let _ = rt.write_all(bytes);
 }
 
-fn gap() {
-    io::write_all(OUT, b" ");
+fn number(rt: &HostRuntime, n: u16) {
+    let _ = rt.print(n);
+}
+
+fn gap(rt: &HostRuntime) {
+    text(rt, b" ");
 }
 
 // The nodes of one level, or nothing.
-fn level(height: u16, counts: Counts, level: u16, many: u16) {
+fn level(rt: &HostRuntime, height: u16, counts: Counts, level: u16, many: u16) {
     for k in 0..many {
-        gap();
-        number(counts.expected(height, level, k));
+        gap(rt);
+        number(rt, counts.expected(height, level, k));
     }
 }
 
@@ -29,27 +32,27 @@ fn four(a: u16, b: u16, c: u16, d: u16) -> Counts {
 }
 
 // One line: height, counts and nodes, or "no room" where the pages are too many.
-fn line(height: u16, a: u16, b: u16, c: u16, d: u16) {
+fn line(rt: &HostRuntime, height: u16, a: u16, b: u16, c: u16, d: u16) {
     let counts = four(a, b, c, d);
-    number(height);
-    io::write_all(OUT, b": ");
-    number(a);
-    gap();
-    number(b);
-    gap();
-    number(c);
-    gap();
-    number(d);
-    io::write_all(OUT, b":");
+    number(rt, height);
+    text(rt, b": ");
+    number(rt, a);
+    gap(rt);
+    number(rt, b);
+    gap(rt);
+    number(rt, c);
+    gap(rt);
+    number(rt, d);
+    text(rt, b":");
     if counts.total() > room(height) {
-        io::write_all(OUT, b" no room\n");
+        text(rt, b" no room\n");
         return;
     }
-    level(height, counts, 0, a);
-    level(height, counts, 1, b);
-    level(height, counts, 2, c);
-    level(height, counts, 3, d);
-    io::write_all(OUT, b"\n");
+    level(rt, height, counts, 0, a);
+    level(rt, height, counts, 1, b);
+    level(rt, height, counts, 2, c);
+    level(rt, height, counts, 3, d);
+    text(rt, b"\n");
 }
 
 // The pages of a reserve of this height: 8, 32, or 1 for any other.
@@ -61,20 +64,20 @@ fn room(height: u16) -> u32 {
     }
 }
 
-fn main() {
-    line(3, 0, 0, 0, 0);
-    line(3, 1, 0, 0, 0);
-    line(3, 1, 1, 0, 0);
-    line(3, 2, 1, 0, 0);
-    line(3, 3, 1, 0, 0);
-    line(3, 1, 0, 1, 0);
-    line(3, 2, 0, 1, 0);
-    line(3, 1, 1, 1, 0);
-    line(3, 0, 1, 1, 0);
-    line(3, 1, 2, 0, 0);
-    line(3, 0, 0, 0, 1);
-    line(0, 1, 0, 0, 0);
-    line(3, 1, 2, 1, 0);
-    line(5, 1, 1, 2, 1);
-    line(5, 1, 2, 2, 1);
+fn main(rt: HostRuntime) {
+    line(&rt, 3, 0, 0, 0, 0);
+    line(&rt, 3, 1, 0, 0, 0);
+    line(&rt, 3, 1, 1, 0, 0);
+    line(&rt, 3, 2, 1, 0, 0);
+    line(&rt, 3, 3, 1, 0, 0);
+    line(&rt, 3, 1, 0, 1, 0);
+    line(&rt, 3, 2, 0, 1, 0);
+    line(&rt, 3, 1, 1, 1, 0);
+    line(&rt, 3, 0, 1, 1, 0);
+    line(&rt, 3, 1, 2, 0, 0);
+    line(&rt, 3, 0, 0, 0, 1);
+    line(&rt, 0, 1, 0, 0, 0);
+    line(&rt, 3, 1, 2, 1, 0);
+    line(&rt, 5, 1, 1, 2, 1);
+    line(&rt, 5, 1, 2, 2, 1);
 }

@@ -5,17 +5,17 @@ use command::Input;
 use conversion::Conversion;
 use line::NUMBERS;
 
-fn main() {
-    if !has_work() {
+fn main(rt: HostRuntime) {
+    if !has_work(&rt) {
         return;
     }
-    let mut name = io::buffer();
-    let length = command::argument(1, &mut name);
-    list_from(&name[..length]);
+    let mut name = [0u8; 4096];
+    let length = command::argument(&rt, 1, &mut name);
+    list_from(&rt, &name[..length]);
 }
 
 // Whether there is a journal to list, or the program only says how it is used.
-fn has_work() -> bool {
+fn has_work(rt: &HostRuntime) -> bool {
     let usage = b"usage: listing [FILE]\nlisting --help says more.\n";
     let help = b"usage: listing [FILE]\n\
         Lists the journal in FILE, or on standard input if there is no FILE or it is -.\n\
@@ -34,46 +34,46 @@ fn has_work() -> bool {
         with the offset of the first record that is not listed and the number of the\n\
         refusal; standard error then says why. docs/MANUAL.md has all this with examples,\n\
         and what each refusal means.\n";
-    command::has_work(b"listing", usage, help, 1)
+    command::has_work(rt, b"listing", usage, help, 1)
 }
 
 // Lists the journal in the file of that name, or on standard input for `-`.
-fn list_from(name: &[u8]) {
+fn list_from(rt: &HostRuntime, name: &[u8]) {
     let mut input = [0u8; 65537];
-    let read = command::read_input(b"listing", name, &mut input);
+    let read = command::read_input(rt, b"listing", name, &mut input);
     let Input::Whole(n) = read else {
         return;
     };
-    list_whole(name, &input[..n]);
+    list_whole(rt, name, &input[..n]);
 }
 
 // Lists a journal that was read under that name. Why the listing ended before the journal did is said when all of it is written.
-fn list_whole(name: &[u8], journal: &[u8]) {
+fn list_whole(rt: &HostRuntime, name: &[u8], journal: &[u8]) {
     let mut table = [0u16; 4096];
     let mut line = [0u16; NUMBERS];
-    if list(journal, &mut table, &mut line) && command::close_output(b"listing") {
-        explain(name, journal);
+    if list(rt, journal, &mut table, &mut line) && command::close_output(rt, b"listing") {
+        explain(rt, name, journal);
     }
 }
 
 // Says on standard error why the listing of a journal has ended, unless it was the end of the journal.
-fn explain(name: &[u8], journal: &[u8]) {
+fn explain(rt: &HostRuntime, name: &[u8], journal: &[u8]) {
     match conversion::judge(journal) {
         Conversion::Done { length: _ } => {}
         Conversion::Refused { number, offset } => {
-            command::explain_end(b"listing", name, number, offset)
+            command::explain_end(rt, b"listing", name, number, offset)
         }
     }
 }
 
 // Writes the listing of a journal, block by block, and answers whether all of it was written: a write that fails ends it.
-fn list(journal: &[u8], table: &mut [u16], line: &mut [u16]) -> bool {
-    let mut block = io::large_buffer();
+fn list(rt: &HostRuntime, journal: &[u8], table: &mut [u16], line: &mut [u16]) -> bool {
+    let mut block = [0u8; 65536];
     let mut state = replay::start();
     loop {
         let filled = replay::fill(state, journal, table, line, &mut block);
         let length = filled.length;
-        if !write_all(&block[..length]) {
+        if !write_all(rt, &block[..length]) {
             return false;
         }
         if !filled.on {
@@ -83,6 +83,6 @@ fn list(journal: &[u8], table: &mut [u16], line: &mut [u16]) -> bool {
     }
 }
 
-fn write_all(bytes: &[u8]) -> bool {
-    command::write_output(b"listing", bytes)
+fn write_all(rt: &HostRuntime, bytes: &[u8]) -> bool {
+    command::write_output(rt, b"listing", bytes)
 }

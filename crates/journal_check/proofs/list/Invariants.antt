@@ -1,0 +1,6 @@
+-- Each record leaves less of the journal to read.
+use Rattle.std.proofs.Common.{length, ◌-◌}
+use Rattle.journal_check.proofs.list.Given as goal
+
+abbrev pub decreases-loop-record : goal.decreases-loop-record
+decreases-loop-record l = length l.journal - l.offset
