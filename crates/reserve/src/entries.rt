@@ -15,8 +15,7 @@ pub struct Entry {
 }
 
 // Looks up a tenant's entry in a table.
-#[unsafe(no_mangle)]
-pub extern "C" fn reserve_look(table: &[u8], tenant: u16) -> Entry
+pub fn reserve_look(table: &[u8], tenant: u16) -> Entry
     ensures { result ≡ entry_for (table_of table.now) tenant }
 {
     if table.len() != 2 * TENANTS {

@@ -14,8 +14,7 @@ pub struct Level {
 }
 
 // The level that a grant of so many pages asks for in a reserve of this height.
-#[unsafe(no_mangle)]
-pub extern "C" fn reserve_level_of_pages(height: u16, pages: u16) -> Level
+pub fn reserve_level_of_pages(height: u16, pages: u16) -> Level
     ensures { result ≡ level_asked height pages }
 {
     if MAX_HEIGHT < height {

@@ -15,8 +15,7 @@ pub struct Pages {
 }
 
 // The pages that a node covers in a reserve of this height.
-#[unsafe(no_mangle)]
-pub extern "C" fn reserve_node_pages(height: u16, node: u16) -> Pages
+pub fn reserve_node_pages(height: u16, node: u16) -> Pages
     ensures { result ≡ node_pages height node }
 {
     if MAX_HEIGHT < height {

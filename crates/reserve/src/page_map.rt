@@ -17,8 +17,7 @@ pub struct Counted {
 }
 
 // Draws the page map of a table into the first 512 bytes.
-#[unsafe(no_mangle)]
-pub extern "C" fn reserve_draw(height: u16, table: &[u8], map: &mut [u8]) -> u16
+pub fn reserve_draw(height: u16, table: &[u8], map: &mut [u8]) -> u16
     ensures { drawing result map.new ≡ drawn height (table_of table.now) map.old }
 {
     let mut nodes = [0u16; TENANTS];
@@ -27,8 +26,7 @@ pub extern "C" fn reserve_draw(height: u16, table: &[u8], map: &mut [u8]) -> u16
 }
 
 // The number of set bits in the first 512 bytes of a map.
-#[unsafe(no_mangle)]
-pub extern "C" fn reserve_count(map: &[u8]) -> Counted
+pub fn reserve_count(map: &[u8]) -> Counted
     ensures { result ≡ count_of (counted map.now) }
 {
     let found = pagemap::count(map);
