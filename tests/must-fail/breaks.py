@@ -1,57 +1,88 @@
 #!/usr/bin/env -S python3 -B
-"""Whether each mistake of the must-fail edits breaks what it names, by the logs that `rt ci` or `rt must-fail` has left.
+"""Whether each mistake of the must-fail edits breaks what it names. Usage: breaks.py [CRATE..]
 
 What a mistake names has to fail for a fact of its own: a function in its own proof, a theorem at its own name. That something cited was refused does not
-count, nor that a proof no longer has the code's form. All mistakes are one check, since rt has counted each file that is refused. Prints the mistakes
-that break something else, or nothing, and why; then how many there are. The last line is 'N passed, M failed'.
+count, nor that a proof no longer has the code's form. Every crate with edits is checked in a copy of the repository, as it stands and then with each file's
+mistakes, and the logs are read. All mistakes are one check, since rt counts each file that is refused. Prints the mistakes that break something else, or
+nothing, and why; then how many there are. The last line is 'N passed, M failed'.
 """
 
 import collections
 import glob
 import os
+import pathlib
+import queue
 import sys
+import tempfile
+import threading
 
-from mistakes import files_of, log_of, made, mistakes_in, objection, text_of
-
-
-def ill_formed(mistakes):
-    """What is wrong with the mistakes of one file as they are written."""
-    names = collections.Counter(mistake.name for mistake in mistakes)
-    whole = collections.Counter(what.partition(" at ")[0] for mistake in mistakes for what in mistake.breaks)
-    broken = collections.Counter(what for mistake in mistakes for what in mistake.breaks)
-    for mistake in mistakes:
-        if not (mistake.name and mistake.says and len(mistake.breaks) == 1):
-            yield mistake, "it has not just one line mistake:, one comment and one line breaks:"
-        elif not mistake.replacements:
-            yield mistake, "it replaces nothing"
-        elif names[mistake.name] > 1:
-            yield mistake, "another mistake has its name"
-        elif broken[mistake.breaks[0]] > 1 or whole[mistake.breaks[0]] > 1:
-            yield mistake, f"another mistake breaks {mistake.breaks[0]} too, so that one of them would be enough"
+from copies import Copy
+from mistakes import files_of, ill_formed, made, mistakes_in, objection, text_of
 
 
-def objections(path):
+def judged(copy, crate, path):
     """The mistakes of a file that do not break what they name, each with the reason."""
-    _, crate, _, file = path.split("/")
-    copy = os.path.abspath(f"target/must-fail/{crate}/{file.removesuffix('.edit')}")
     mistakes = mistakes_in(text_of(path))
     wrong = list(ill_formed(mistakes))
-    if wrong:
+    if wrong or not mistakes:
         return wrong
-    if not os.path.exists(f"{copy}/.log") or files_of(copy) != made(files_of(f"crates/{crate}"), mistakes):
-        return [(mistake, f"it has no log, or that of another state of the crate: run rt must-fail {crate}") for mistake in mistakes]
-    log = log_of(text_of(f"{copy}/.log"), copy)
-    judged = [(mistake, objection(mistake.breaks[0], log)) for mistake in mistakes]
-    return [(mistake, f"{mistake.breaks[0]}: {why}") for mistake, why in judged if why]
+    files = made(files_of(f"crates/{crate}"), mistakes)
+    if not files:
+        return [(mistake, "a text of the file does not stand just once where it is to be replaced") for mistake in mistakes]
+    log, is_proved = copy.checked(crate, files)
+    if is_proved:
+        return [(mistake, "the crate is proved with all of them") for mistake in mistakes]
+    reasons = [(mistake, objection(mistake.breaks[0], log)) for mistake in mistakes]
+    return [(mistake, f"{mistake.breaks[0]}: {why}") for mistake, why in reasons if why]
+
+
+def work(crates, edits, say):
+    """Judges one crate after the other, in a copy of its own."""
+    with tempfile.TemporaryDirectory() as folder:
+        copy = Copy(folder)
+        while True:
+            try:
+                crate = crates.get_nowait()
+            except queue.Empty:
+                return
+            is_proved = copy.checked(crate)[1]
+            for path in edits[crate]:
+                whole = [] if is_proved else [(mistake, "the crate is not proved as it stands") for mistake in mistakes_in(text_of(path))]
+                say(path, whole or judged(copy, crate, path))
 
 
 def main():
-    paths = sorted(glob.glob("crates/*/must-fail/*.edit"))
-    failed = False
+    os.chdir(pathlib.Path(__file__).resolve().parents[2])
+    edits = collections.defaultdict(list)
+    for path in sorted(glob.glob("crates/*/must-fail/*.edit")):
+        edits[path.split("/")[1]].append(path)
+    lacking = [crate for crate in sys.argv[1:] if crate not in edits]
+    if lacking:
+        sys.exit(f"no must-fail edits: {' '.join(lacking)}")
+    # those with most files first, so that none of them is left for the end
+    crates = queue.Queue()
+    for crate in sorted(sys.argv[1:] or edits, key=lambda it: -len(edits[it])):
+        crates.put(crate)
+    wrong = {}
+    printing = threading.Lock()
+
+    def say(path, reasons):
+        with printing:
+            wrong[path] = reasons
+            for mistake, why in reasons:
+                print(f"{path}: {mistake.name}: {why}", flush=True)
+
+    # (a check takes two processors where it can)
+    workers = [threading.Thread(target=work, args=(crates, edits, say)) for _ in range(min(crates.qsize(), max(1, (os.cpu_count() or 1) // 2)))]
+    for worker in workers:
+        worker.start()
+    for worker in workers:
+        worker.join()
+    paths = [path for crate in sys.argv[1:] or edits for path in edits[crate]]
     for path in paths:
-        for mistake, why in objections(path):
-            print(f"{path}: {mistake.name}: {why}")
-            failed = True
+        if path not in wrong:
+            print(f"{path}: it was not judged")
+    failed = any(wrong.get(path, True) for path in paths) or not paths
     print(f"{sum(len(mistakes_in(text_of(path))) for path in paths)} mistakes in {len(paths)} files")
     print(f"{1 - failed} passed, {int(failed)} failed")
     return int(failed)
