@@ -1,6 +1,6 @@
 // Files by the bytes of their names. The system's library takes names that are text in UTF-8: another name is refused, with the reason that file systems
 // give which take no other.
-ghost use Rattle.std.specs.Prelude.{◌≡◌, IfOk};
+ghost use Rattle.std.specs.Prelude.{◌≡◌, ◌≤◌, ◌⊎◌, length, IfOk, OnErr, IsUtf8};
 
 use std::fs::{File, OpenOptions};
 use std::{fs, io, str};
@@ -41,7 +41,8 @@ pub fn remove(rt: &HostRuntime, name: &[u8]) -> io::Result<()> {
 
 // The name as a path, of the same bytes.
 fn path_of(name: &[u8]) -> io::Result<&str>
-    ensures { IfOk result (λ path. path.now ≡ name.now) }
+    ensures bytes { IfOk result (λ path. path.now ≡ name.now) }
+    ensures refused { OnErr result ((4096 ≤ length name.now) ⊎ (¬ IsUtf8 name.now)) }
 {
     if name.len() >= PATH_MAX {
         return Err(io::Error::from_raw_os_error(TOO_LONG));

@@ -1,6 +1,6 @@
 // Reading and writing whole. A call that a signal interrupts is tried again, at most a thousand times in all, so that it ends.
-ghost use Rattle.std.specs.Prelude.{◌≡◌, ◌≤◌, true};
-ghost use Rattle.std.specs.Prelude.{IfOk};
+ghost use Rattle.std.specs.Prelude.{◌≡◌, ◌<◌, ◌≤◌, true, length, take, IfOk, OnOk};
+ghost use Rattle.std.specs.Io.KnownBytes.{Appends, Consumes, IsAtEnd};
 ghost use Rattle.command.specs.Whole.{Counts};
 
 use std::io;
@@ -17,7 +17,9 @@ pub enum Input {
 
 // Reads until the buffer is full, the input ends or a read fails, and answers how many bytes it put at the start of the buffer.
 pub fn read_all<R: Read>(source: &mut R, buf: &mut [u8]) -> io::Result<usize>
-    ensures { IfOk result (λ n. Counts n buf.new) }
+    ensures within { IfOk result (λ n. Counts n buf.new) }
+    ensures bytes { IfOk result (λ n. Consumes (R.remaining source.old) (R.remaining source.new) (take n buf.new)) }
+    ensures ended { IfOk result (λ n. n < length buf.new → IsAtEnd (R.remaining source.new)) }
 {
     let mut done = 0;
     let mut tries = TRIES;
@@ -37,7 +39,9 @@ pub fn read_all<R: Read>(source: &mut R, buf: &mut [u8]) -> io::Result<usize>
 }
 
 // Writes all of the bytes, or stops at the first write that fails. Some may have been written then.
-pub fn write_all<W: Write>(target: &mut W, bytes: &[u8]) -> io::Result<()> {
+pub fn write_all<W: Write>(target: &mut W, bytes: &[u8]) -> io::Result<()>
+    ensures { OnOk result (Appends (W.contents target.old) (W.contents target.new) bytes.now) }
+{
     let mut done = 0;
     let mut tries = TRIES;
     while done < bytes.len() {
