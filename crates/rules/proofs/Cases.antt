@@ -1,4 +1,4 @@
--- The ways that a call on a sound table can go: refused, granted, repeated, released, grown; with what its checks have shown.
+-- Every call on a sound table goes one of the ways of Ways.antt.
 use mathlib.Core.Path.{◌≡◌, refl, sym, ap, ◌∙◌}
 use mathlib.Core.Bool.{Bool, true, false, cond}
 use mathlib.Core.List.{List, [], ◌∷◌, ◌++◌}
@@ -6,56 +6,20 @@ use Prim.Native.Nat.{ℕ, zero, suc, ◌+◌, ◌^◌, ◌≤◌, ◌<◌}
 use native.Mathlib.Omega.{arith}
 use borrow.Author.Tests.{ltb-false, eqb-false}
 use lib.Dec.{eqb, ltb}
-use lib.ListN.{set}
-use Rattle.tree.specs.Node.{level}
 use Rattle.layout.specs.Layout.{pages}
 use Rattle.layout.specs.Set.{layout_set}
 use Rattle.layout.specs.Change.{one_block_more}
 use Rattle.table.specs.Table.{node_at, counts_of}
 use Rattle.sizes.specs.Level.{level_for}
 use Rattle.rules.specs.Call.{Call, grant_level, grant_pages, release, grow, tenant_of}
-use Rattle.rules.specs.Step.{refused, Check, check, first, validity, counts_but, repeats, block_checks, grant_holdings, holdings, checks}
-use Rattle.rules.specs.Step.{granted, repeated, block_for, released, accepted, unless, step}
-use Rattle.rules.specs.Demand.{Asks, by_level, by_pages, Releases, releases, Grows, grows, Unchanged}
+use Rattle.rules.specs.Step.{Check, check, first, validity, counts_but, repeats, block_checks, grant_holdings, holdings, checks}
+use Rattle.rules.specs.Step.{granted, repeated, block_for, accepted, unless, step}
+use Rattle.rules.specs.Demand.{Asks, by_level, by_pages, releases, grows, Unchanged}
+pub use Rattle.rules.proofs.Ways.{Granted, Repeated, Released, Grown, Case, by_grant, by_repetition, by_release, by_growth, by_refusal}
 use Rattle.rules.proofs.Checks.{Sound, first_of_sound, Numbered, validity_numbered, not_applied, rest_zero, valid_tenant, valid_size}
 use Rattle.rules.proofs.Checks.{asked_in_height, grown_in_height}
 use Rattle.rules.proofs.Given.{above_zero}
 use Rattle.rules.proofs.Repeats.{repeats_holds}
-
-pub record Granted (h : ℕ) (T : List ℕ) (c : Call) (l : ℕ) : Type 0 where
-  pub asks : Asks h c l
-  pub tenant : tenant_of c < 4096
-  pub nothing : node_at T (tenant_of c) ≡ 0
-  pub in_height : l ≤ h
-  pub fits : pages (counts_of h T) + 2 ^ l ≤ 2 ^ h
-  pub outcome : step h T c ≡ granted h T (layout_set h (one_block_more (counts_of h T) l)) (tenant_of c) l
-
-pub record Repeated (h : ℕ) (T : List ℕ) (c : Call) (l : ℕ) : Type 0 where
-  pub asks : Asks h c l
-  pub holds : 0 < node_at T (tenant_of c)
-  pub same : level h (node_at T (tenant_of c)) ≡ l
-  pub outcome : step h T c ≡ repeated T (node_at T (tenant_of c))
-
-pub record Released (h : ℕ) (T : List ℕ) (c : Call) : Type 0 where
-  pub asks : Releases c
-  pub tenant : tenant_of c < 4096
-  pub holds : 0 < node_at T (tenant_of c)
-  pub outcome : step h T c ≡ released h T (layout_set h (counts_but h T (tenant_of c))) (tenant_of c)
-
-pub record Grown (h : ℕ) (T : List ℕ) (c : Call) (l : ℕ) : Type 0 where
-  pub asks : Grows c l
-  pub tenant : tenant_of c < 4096
-  pub holds : 0 < node_at T (tenant_of c)
-  pub in_height : l ≤ h
-  pub fits : pages (counts_but h T (tenant_of c)) + 2 ^ l ≤ 2 ^ h
-  pub outcome : step h T c ≡ granted h (set T (tenant_of c) 0) (layout_set h (one_block_more (counts_but h T (tenant_of c)) l)) (tenant_of c) l
-
-pub data Case (h : ℕ) (T : List ℕ) (c : Call) : Type 0 where
-  by_grant : (l : ℕ) → Granted h T c l → Case h T c
-  by_repetition : (l : ℕ) → Repeated h T c l → Case h T c
-  by_release : Released h T c → Case h T c
-  by_growth : (l : ℕ) → Grown h T c l → Case h T c
-  by_refusal : (n : ℕ) → step h T c ≡ refused (suc n) T → Case h T c
 
 pub repeated_unchanged : {h : ℕ} {T : List ℕ} {c : Call} {l : ℕ} → Repeated h T c l → Unchanged (tenant_of c) T (step h T c)
 repeated_unchanged r = rw r.outcome (record { answer = refl; node = refl; moves = refl; table = refl })

@@ -10,6 +10,7 @@ pub mod Same
 pub mod Repeats
 pub mod Releasing
 pub mod Cases
+pub mod Ways
 pub mod Reported
 pub mod Box
 pub mod Demand
