@@ -4,7 +4,7 @@ use mathlib.Core.Path.{◌≡◌, refl, sym, ap, subst, ◌∙◌}
 use mathlib.Core.Bool.{Bool, true, false, false≢true}
 use mathlib.Core.List.{List, [], ◌∷◌, ◌++◌, map}
 use mathlib.Core.Option.{Option, some, none}
-use Prim.Native.Nat.{ℕ, zero, suc, ◌+◌, ◌≤◌, ◌<◌, zero-le}
+use Prim.Native.Nat.{ℕ, zero, suc, ◌≤◌, ◌<◌, zero-le}
 use native.Mathlib.Omega.{arith}
 use native.Mathlib.Decide.{dec_lt, ℕ_discrete}
 use borrow.Author.Tests.{ltb-false, eq-eqb}
@@ -40,7 +40,7 @@ use Rattle.admission.proofs.Direct.{release_alone, growth_alone, grant_asks, Sou
 use Rattle.admission.proofs.Arguments.{lengths_passed, ordered, arguments_passed, order_passed}
 use Rattle.admission.proofs.Ways.{Way, turned_down, given, given_again, given_up, exchanged, Kind, a_grant, a_release, a_growth, kind, way}
 use Rattle.admission.proofs.Numbers.{direct_answer}
-use Rattle.admission.proofs.Admits.{place_in, grant_to, answered, is_granted, admits_somebody, admits_nobody}
+use Rattle.admission.proofs.Admits.{place_in, grant_to, is_granted, admits_somebody, admits_nobody}
 
 module _ (h : ℕ) (S : State) where
   -- ---- a call that passed 1, 2 and 7 of table and line

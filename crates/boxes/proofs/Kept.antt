@@ -9,7 +9,7 @@ use borrow.Author.Tests.{eq-eqb, ne_eqb}
 use lib.ListN.{length, length-map}
 use Rattle.table.specs.Table.{node_at}
 use Rattle.line.specs.Line.{Waiting, line_of, waiting_in}
-use Rattle.line.specs.Order.{waits, Orderly, nobody, LineInOrder}
+use Rattle.line.specs.Order.{waits, Orderly, LineInOrder}
 use Rattle.line.specs.Changes.{barred, once_more}
 use Rattle.line.proofs.Numbers.{length_line, read_of_line}
 use Rattle.line.proofs.Ordered.{decides_line, line_of_orderly}

@@ -29,13 +29,12 @@ use Rattle.rules.proofs.Cases.{Granted}
 use Rattle.rules.proofs.Kept.{held_is_count}
 use Rattle.rules.proofs.Answers.{has_node, has_nothing}
 use Rattle.admission.specs.Call.{State, join, admit, withdraw}
-use Rattle.admission.specs.Step.{Outcome, on_table, fits, step, refused}
+use Rattle.admission.specs.Step.{Outcome, on_table, fits, step}
 use Rattle.boxes.specs.History.{Book, reply, enter, state_from}
 use Rattle.boxes.specs.Demand.{line_by, pages_held, Lacks, MayEnter, Idle, Admits, admits, Line}
 use Rattle.admission.proofs.Direct.{SoundState}
 use Rattle.admission.proofs.Demand.{demand_2}
 use Rattle.admission.proofs.Numbers.{join_answer, withdraw_answer, admit_refused}
-use Rattle.admission.proofs.Ways.{given}
 use Rattle.boxes.proofs.Choosing.{chosen_by}
 use Rattle.boxes.proofs.Leaving.{length_left}
 use Rattle.admission.proofs.Standing.{waiting_holds_none}

@@ -1,7 +1,7 @@
 -- The list of moves in the order of a plan has each of the moves once: first those that the run names, then those of the staged group.
 use mathlib.Core.Path.{◌≡◌, refl, sym, ap, ◌∙◌}
-use mathlib.Core.Bool.{true, false, true≢false}
-use mathlib.Core.Logic.{◌⊎◌, ⊎_elim}
+use mathlib.Core.Bool.{true, true≢false}
+use mathlib.Core.Logic.{⊎_elim}
 use mathlib.Core.List.{List, [], ◌∷◌, ◌++◌}
 use mathlib.Core.List.{Memᴰ as In}
 use mathlib.Core.List.Memᴰ.{append_cases as in_either}

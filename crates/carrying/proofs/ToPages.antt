@@ -10,7 +10,6 @@ use lib.Dec.{eqb}
 use lib.ListN.{length}
 use Rattle.tree.specs.Node.{Covers}
 use Rattle.staging.specs.Graph.{Group, joined, away, Run, nobody, next}
-use Rattle.staging.specs.Graph as Graph
 use Rattle.staging.proofs.Booleans.{false_if_not_true}
 use Rattle.table.specs.Table.{node_at}
 use Rattle.table.specs.Paired.{Mover}

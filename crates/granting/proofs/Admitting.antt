@@ -1,5 +1,5 @@
 -- Whom an admit grants, and what it leaves in the table and in the line.
-use mathlib.Core.Path.{◌≡◌, refl, sym, ap, subst, ◌∙◌}
+use mathlib.Core.Path.{◌≡◌, refl, sym, ap, ◌∙◌}
 use mathlib.Core.Bool.{Bool, true, false}
 use mathlib.Core.List.{List, [], ◌∷◌, ◌++◌, map}
 use mathlib.Core.Option.{some}
@@ -27,7 +27,7 @@ use Rattle.rules.proofs.Checks.{Numbered}
 use Rattle.calls.proofs.Calling.{arguments}
 use Rattle.admission.specs.Call.{State, admit}
 use Rattle.admission.specs.Step.{Outcome, refused, reserve_checks, fits, admission, step}
-use Rattle.admission.specs.Value.{lent, GivesAdmitted}
+use Rattle.admission.specs.Value.{GivesAdmitted}
 use Rattle.admission.specs.Inner.{Unnamed}
 use Rattle.admission.specs.declared.Admitted.{Admitted}
 use Rattle.admission.proofs.Arguments.{Lengths, lengths_passed, ordered, disorder_decides, rest_decides}

@@ -1,6 +1,6 @@
 -- A direct call behind a line: what the line decides of a grant, and that the table decides the rest.
 use mathlib.Core.Path.{◌≡◌, refl, sym, ap, subst, ◌∙◌}
-use mathlib.Core.Bool.{Bool, true, false, not, cond, ◌&&◌, ◌||◌}
+use mathlib.Core.Bool.{Bool, true, false, not, cond, ◌||◌}
 use mathlib.Core.List.{List, [], ◌∷◌, ◌++◌, map, append-nil}
 use mathlib.Core.Option.{none}
 use Prim.Native.Nat.{ℕ, ◌<◌}
@@ -24,7 +24,7 @@ use Rattle.rules.specs.Value.{call_of, number_of, Gives as TableGives}
 use Rattle.rules.specs.declared.Call.{Call as Arguments}
 use Rattle.rules.specs.declared.Call.TheVariants.{GrantLevel, GrantPages, Release, Grow}
 use Rattle.rules.specs.declared.Called.{Called}
-use Rattle.rules.proofs.Checks.{Numbered, validity_numbered, first_after_none, rest_zero, not_applied, valid_tenant, answer_is_first}
+use Rattle.rules.proofs.Checks.{Numbered, validity_numbered, first_after_none, not_applied, valid_tenant, answer_is_first}
 use Rattle.calls.proofs.Calling.{arguments, arguments_numbered, changes}
 use Rattle.rules.proofs.Cases.{both_zero}
 use Rattle.rules.proofs.Answers.{asked_holdings}
@@ -37,7 +37,7 @@ use Rattle.admission.specs.Value.{lent, Gives}
 use Rattle.granting.specs.Inner.{line_checks, line_number, Unopposed}
 use Rattle.admission.proofs.Direct.{unless_with_line, release_alone, growth_alone, grant_asks, grant_line}
 use Rattle.admission.proofs.Answering.{step_refused}
-use Rattle.admission.proofs.Arguments.{found_first, lent_numbered, Lengths, lengths_passed, lengths_tested_again}
+use Rattle.admission.proofs.Arguments.{lent_numbered, Lengths, lengths_passed, lengths_tested_again}
 use Rattle.admission.proofs.Arguments.{ordered, disorder_decides, rest_decides}
 
 -- ---- the kinds of call

@@ -3,14 +3,13 @@
 use mathlib.Core.Path.{◌≡◌, refl, sym, ap, ap₂, ◌∙◌}
 use mathlib.Core.Bool.{Bool, true, false, not, ◌&&◌, false≢true, ◌||◌}
 use mathlib.Core.List.{List, [], ◌∷◌}
-use mathlib.Core.Logic.{◌⊎◌, inl, inr}
 use Prim.Native.Nat.{ℕ, zero, suc, ◌+◌, ◌^◌, ◌≤◌, ◌<◌}
 use native.Mathlib.Omega.{arith}
 use borrow.Author.Tests.{eqb-true, eq-eqb}
 use lib.Dec.{eqb, ltb}
 use lib.ListN.{length}
 use Rattle.tree.specs.Node.{InTree}
-use Rattle.tree.specs.Held.{Nodes, Held, count, one_if}
+use Rattle.tree.specs.Held.{Nodes, count, one_if}
 use Rattle.tree.specs.Block.{Block, Blocks, block_of, node, nodes_of}
 use Rattle.tree.proofs.Coordinates.{node_of_block}
 use Rattle.tree.proofs.Sets.{both_left, both_right, nodes_of_in_tree}

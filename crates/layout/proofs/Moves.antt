@@ -10,7 +10,7 @@ use Rattle.tree.specs.Block.{node}
 use Rattle.layout.specs.Layout.{State, full, block, place, rise, remaining, layout_from, layout, among}
 use Rattle.layout.specs.Change.{one_block_more, one_block_fewer, missing, most_by_grant, most_by_release, most_by_growth}
 use Rattle.layout.proofs.Edit.{Edit, done, miss, more, hits, same_list, backwards, missing_at_most}
-use Rattle.layout.proofs.Apart.{Apart, lone_in_B, lone_in_A, lone_in_both, same, Level, placed}
+use Rattle.layout.proofs.Apart.{Apart, lone_in_B, lone_in_A, lone_in_both, same, placed}
 use Rattle.layout.proofs.Apart.{level_with_equal_counts, level_with_one_more}
 
 edit_above : (l : ℕ) (cs : List ℕ) {a b : State} {m n : ℕ} → Apart a b m n → Edit (layout_from l a cs) (layout_from l b cs) m n

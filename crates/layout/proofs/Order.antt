@@ -1,7 +1,7 @@
 -- The blocks of a layout stand in the order of their pages and share none; so the layout is legal.
 use mathlib.Core.Path.{◌≡◌, refl, sym, ◌∙◌}
 use mathlib.Core.List.{List, [], ◌∷◌, ◌++◌, append_assoc}
-use Prim.Native.Nat.{ℕ, zero, suc, ◌+◌, ◌*◌, ◌^◌, ◌≤◌, ◌<◌}
+use Prim.Native.Nat.{ℕ, zero, suc, ◌+◌, ◌*◌, ◌^◌, ◌≤◌}
 use native.Mathlib.Nat.{le_trans, le_refl, le_of_eq, add-zero, mul-le-mul_right}
 use native.Mathlib.Omega.{arith}
 use Rattle.tree.specs.Block.{Block, first, past, Meet, BLegal}

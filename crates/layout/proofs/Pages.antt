@@ -1,12 +1,11 @@
 -- The pages of counts given as a list, and as a function of the level.
 use mathlib.Core.Path.{◌≡◌, refl, sym, ap, ◌∙◌}
 use mathlib.Core.List.{List, [], ◌∷◌}
-use Prim.Native.Nat.{ℕ, zero, suc, ◌+◌, ◌*◌, ◌^◌, ◌≤◌, ◌<◌, max}
+use Prim.Native.Nat.{ℕ, suc, ◌+◌, ◌*◌, ◌^◌, ◌<◌, max}
 use native.Mathlib.Nat.{add-zero, zero-add, zero-mul, add-suc, suc-add, le-max_left, le-max_right}
-use native.Mathlib.Omega.{arith}
 use lib.ListN.{length, get_or, get_or-eq_default}
 use Rattle.tree.specs.Pages.{sum, pages_of}
-use Rattle.tree.proofs.Sum.{sum_cong, sum_first, sum_split, sum_stops}
+use Rattle.tree.proofs.Sum.{sum_cong, sum_first, sum_stops}
 use Rattle.layout.specs.Layout.{pages, pages_from}
 
 pages_from_sum : (l : ℕ) (cs : List ℕ) → pages_from l cs ≡ sum (length cs) (λ i. get_or cs i 0 * 2 ^ (l + i))

@@ -1,12 +1,11 @@
 -- What the layout of given counts is, in document 01's terms, for every height and all counts.
-use mathlib.Core.Path.{◌≡◌, refl, sym, ap, ◌∙◌}
+use mathlib.Core.Path.{◌≡◌, sym, ap, ◌∙◌}
 use mathlib.Core.Logic.{◌↔◌}
 use mathlib.Core.List.{List}
-use Prim.Native.Nat.{ℕ, suc, ◌*◌, ◌^◌, ◌≤◌, ◌<◌}
+use Prim.Native.Nat.{ℕ, suc, ◌*◌, ◌^◌, ◌≤◌}
 use lib.ListN.{get_or}
 use Rattle.tree.specs.Held.{Nodes, Within, Legal, Safe, sizes}
-use Rattle.tree.specs.Block.{Blocks}
-use Rattle.tree.specs.Pages.{sum, pages_of}
+use Rattle.tree.specs.Pages.{pages_of}
 use Rattle.tree.proofs.Bridge.{SameSet, legal_nodes, safe_nodes}
 use Rattle.tree.proofs.Sets.{set_of_nodes, nodes_of_in_tree}
 use Rattle.tree.proofs.Sum.{sum_cong}

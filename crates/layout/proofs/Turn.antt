@@ -10,7 +10,7 @@ use lib.ListN.{length, get_or, set, take, drop, replicate, length-set, drop_of_l
 use lib.Seq.{drop-cons, take-suc-set, take_all, append_snoc}
 use lib.Pow.{pow_pos, pow_mono}
 use Rattle.tree.specs.Block.{Block}
-use Rattle.layout.specs.Layout.{State, full, lone, start, running, place, rise, pages_from, pages}
+use Rattle.layout.specs.Layout.{State, full, start, running, place, rise, pages_from, pages}
 use Rattle.layout.specs.Runs.{starts_from, runs_from, starts, runs}
 use Rattle.layout.specs.Rows.{no_index, lones, rows_of}
 use Rattle.layout.specs.declared.Layout.{Layout}

@@ -7,7 +7,7 @@ use native.Mathlib.Decide.{dec_le}
 use native.Mathlib.Omega.{arith}
 use lib.Pow.{pow-add, pow-lt}
 use Rattle.tree.specs.Block.{Block, past, BWithin}
-use Rattle.layout.specs.Layout.{State, full, lone, block, start, running, place, rise, layout_from, layout, among, pages_from, pages}
+use Rattle.layout.specs.Layout.{State, full, lone, start, running, place, rise, layout_from, layout, among, pages_from, pages}
 use Rattle.layout.proofs.Members.{Member, among_member, same_past, InRun, Part, in_run, in_settled, in_rest, member_part}
 use Rattle.layout.proofs.States.{AtLevel, full_at, lone_at, lone_pages, LoneOf, lone_of, settled_lone, remaining_lone, place_at, start_place}
 use Rattle.layout.proofs.States.{running_le, double_pages, Rises, full_rises, lone_rises, lone_settles, rises, next_at}

@@ -1,6 +1,6 @@
 -- The layout of given counts: the blocks from left to right, by the rule that document 01 derives ("Go up from level 0 …").
 -- That it is the one legal and safe set with these counts is proved in proofs/, so no reader has to believe this file.
-use Rattle.std.specs.Prelude.{◌≡◌, Bool, true, false, ◌&&◌, ◌||◌, List, [], ◌∷◌, ◌++◌, ℕ, zero, suc, ◌+◌, ◌*◌, ◌^◌, eqb}
+use Rattle.std.specs.Prelude.{Bool, false, ◌&&◌, ◌||◌, List, [], ◌∷◌, ◌++◌, ℕ, zero, suc, ◌+◌, ◌*◌, ◌^◌, eqb}
 use Rattle.tree.specs.Block.{Block, Blocks}
 
 -- A number as twice another, or twice another and one.

@@ -1,5 +1,5 @@
 -- When a line is in order. Document 02, L7: the conditions of refusal 7 for a line.
-use Rattle.std.specs.Prelude.{◌≡◌, Bool, true, false, not, ◌&&◌, ◌||◌, List, [], ◌∷◌, ℕ, ◌+◌, ◌*◌, ◌≤◌, ◌<◌, eqb, leb, length, drop, get_or}
+use Rattle.std.specs.Prelude.{◌≡◌, Bool, true, false, not, ◌&&◌, ◌||◌, List, [], ◌∷◌, ℕ, ◌+◌, ◌*◌, ◌≤◌, eqb, leb, length, drop}
 use Rattle.table.specs.Table.{node_at}
 use Rattle.line.specs.Line.{Waiting, line_of, waiting_count, waiting_in}
 

@@ -2,14 +2,14 @@
 use mathlib.Core.Path.{◌≡◌, refl, sym, ap, ◌∙◌}
 use mathlib.Core.Bool.{Bool, true, false, cond, ◌||◌, or-false, or_assoc, or-true, false≢true}
 use mathlib.Core.List.{List, [], ◌∷◌, ◌++◌, map}
-use Prim.Native.Nat.{ℕ, suc, ◌+◌}
+use Prim.Native.Nat.{ℕ, ◌+◌}
 use native.Mathlib.Omega.{arith}
 use native.Mathlib.Decide.{ℕ_discrete}
-use borrow.Author.Tests.{eq-eqb, ne_eqb, eqb-true}
+use borrow.Author.Tests.{eq-eqb, ne_eqb}
 use lib.Dec.{eqb}
 use Rattle.tree.specs.Held.{one_if}
 use Rattle.line.specs.Line.{Waiting}
-use Rattle.line.specs.Order.{waits, Orderly, nobody, before}
+use Rattle.line.specs.Order.{waits, Orderly, before}
 use Rattle.line.specs.Changes.{joined, once_more, leave}
 use Rattle.passes.specs.Events.{Event, joins, withdraws, admitted, granted, left, among, passes, waiting_after}
 

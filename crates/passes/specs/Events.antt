@@ -1,5 +1,5 @@
 -- What happened to a line, and who waits by that: the passes counted over all that happened. Document 02, L7.
-use Rattle.std.specs.Prelude.{Bool, true, false, cond, ◌||◌, List, [], ◌∷◌, ℕ, suc, ◌+◌, eqb}
+use Rattle.std.specs.Prelude.{Bool, false, cond, ◌||◌, List, [], ◌∷◌, ℕ, suc, ◌+◌, eqb}
 use Rattle.tree.specs.Held.{one_if}
 use Rattle.line.specs.Line.{Waiting}
 

@@ -1,7 +1,6 @@
 // The numbers of the refusals, as document 01 has them under "Refusals by place".
 #![tactic(auto)]
 
-
 // The height is above 12.
 pub const HEIGHT: u16 = 1;
 

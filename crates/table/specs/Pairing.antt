@@ -1,6 +1,6 @@
 -- Who goes where when the set of held nodes changes. Document 01, "Calls": on each level those whose node is not in the new set take, left to
 -- right by old node, the nodes that nobody stays on, left to right; the newcomer takes the last one.
-use Rattle.std.specs.Prelude.{◌≡◌, Bool, true, false, not, ◌&&◌, cond, List, [], ◌∷◌, ◌++◌, map, ℕ, zero, suc, ◌-◌, ◌^◌, eqb, get_or, length, set}
+use Rattle.std.specs.Prelude.{Bool, not, ◌&&◌, cond, List, [], ◌∷◌, ◌++◌, map, ℕ, zero, suc, ◌-◌, ◌^◌, eqb, get_or, length, set}
 use Rattle.tree.specs.Held.{Nodes}
 use Rattle.layout.specs.Rows.{up_from}
 use Rattle.table.specs.Table.{node_of, with_node, occupied}

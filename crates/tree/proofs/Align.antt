@@ -1,9 +1,9 @@
 -- Two blocks that share a page are one block, or one lies inside the other.
-use mathlib.Core.Path.{◌≡◌, refl, sym, ap, ap₂}
+use mathlib.Core.Path.{◌≡◌}
 use mathlib.Core.Logic.{◌⊎◌, inl, inr}
-use Prim.Native.Nat.{ℕ, zero, suc, ◌+◌, ◌-◌, ◌*◌, ◌^◌, ◌≤◌, ◌<◌}
+use Prim.Native.Nat.{ℕ, suc, ◌+◌, ◌*◌, ◌^◌, ◌≤◌, ◌<◌}
 use native.Mathlib.Omega.{arith}
-use native.Mathlib.Nat.{mul-le-mul_right, lt_of_mul-lt-mul_right, le_dest, mul_assoc, mul_comm, add-zero, pow-zero, mul-one}
+use native.Mathlib.Nat.{mul-le-mul_right, lt_of_mul-lt-mul_right, le_dest}
 use native.Mathlib.Decide.{dec_lt}
 use lib.Pow.{pow-add, pow_pos}
 use Rattle.tree.specs.Block.{Block, first, past, Meet, Inside}

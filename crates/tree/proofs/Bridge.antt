@@ -1,15 +1,15 @@
 -- Legal and safe sets of nodes, and of blocks, are the same sets.
-use mathlib.Core.Path.{◌≡◌, refl, sym, ap, ap₂, ◌∙◌, subst}
-use mathlib.Core.Bool.{Bool, true, false}
+use mathlib.Core.Path.{◌≡◌, sym, ap, ◌∙◌}
+use mathlib.Core.Bool.{true}
 use mathlib.Core.Logic.{◌⊎◌, inl, inr}
-use Prim.Native.Nat.{ℕ, zero, suc, ◌+◌, ◌-◌, ◌*◌, ◌^◌, ◌≤◌, ◌<◌}
+use Prim.Native.Nat.{ℕ, ◌^◌, ◌≤◌}
 use native.Mathlib.Omega.{arith}
 use Rattle.tree.specs.Node.{InTree, Under, level, LeftOf}
 use Rattle.tree.specs.Held.{Nodes, Held, Within, Legal, Free, Dense, Tail, Meager, Safe}
 use Rattle.tree.specs.Block.{Block, first, past, node, block_of, Blocks, BWithin, Meet, Inside, BLegal, BFree, BDense, BTail, BMeager, BSafe}
 use Rattle.tree.proofs.Align.{first_lt_past, inside_meet, meet_self, meet_sym, meet_cases}
 use Rattle.tree.proofs.Coordinates.{node_level, node_in_tree, node_of_block, block_of_node, block_in_tree}
-use Rattle.tree.proofs.Under.{under_inside, inside_under, left_of_pages, pages_left_of}
+use Rattle.tree.proofs.Under.{under_inside, inside_under, pages_left_of}
 
 -- A and B are one set, by number and by block
 pub record SameSet (h : ℕ) (A : Nodes) (B : Blocks) : Type 0 where

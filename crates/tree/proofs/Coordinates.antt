@@ -1,16 +1,13 @@
 -- A node by number and the same node by level and index: depth, level and pages agree, and so do "under" and "left of".
-use mathlib.Core.Path.{◌≡◌, refl, sym, ap, ap₂, ◌∙◌}
-use mathlib.Core.Logic.{◌⊎◌, inl, inr}
-use Prim.Native.Nat.{ℕ, zero, suc, ◌+◌, ◌-◌, ◌*◌, ◌^◌, ◌≤◌, ◌<◌}
+use mathlib.Core.Path.{◌≡◌, ap₂, ◌∙◌}
+use Prim.Native.Nat.{ℕ, suc, ◌+◌, ◌-◌, ◌*◌, ◌^◌, ◌≤◌, ◌<◌}
 use native.Mathlib.Omega.{arith}
-use native.Mathlib.Nat.{mul-le-mul_right, mul-le-mul_left, lt_of_mul-lt-mul_right, le_of_mul-le-mul_right}
-use native.Mathlib.Nat.{le_dest, sub-add_cancel, pow-suc, mul-one, lt_of_not-le, add-sub_cancel}
-use native.Mathlib.Decide.{dec_lt}
+use native.Mathlib.Nat.{mul-le-mul_right, le_of_mul-le-mul_right}
+use native.Mathlib.Nat.{sub-add_cancel, pow-suc, lt_of_not-le}
 use lib.Pow.{pow-add, pow_pos, pow_mono, pow-lt}
-use Rattle.tree.specs.Node.{InTree, Child, Under, child, deeper, depth, level, first_page, past_page, LeftOf}
+use Rattle.tree.specs.Node.{InTree, depth, level, first_page, past_page}
 use Rattle.tree.specs.Block.{Block, first, past, node, block_of}
 use Rattle.tree.proofs.Highest.{Highest, depth_highest, depth_is}
-use Rattle.tree.proofs.Align.{first_lt_past, scale}
 
 -- a block whose pages lie in the tree: its level is at most the height, and its index is below the level's number of nodes
 pub level_le : (h : ℕ) (b : Block) → past b ≤ 2 ^ h → b.level ≤ h

@@ -1,9 +1,8 @@
 -- The depth of a node is the place of its highest one bit, counted from 0.
-use mathlib.Core.Path.{◌≡◌, refl, sym, ap}
-use mathlib.Core.Logic.{◌⊎◌, inl, inr}
-use Prim.Native.Nat.{ℕ, zero, suc, ◌+◌, ◌-◌, ◌*◌, ◌/◌, ◌^◌, ◌≤◌, ◌<◌}
+use mathlib.Core.Path.{◌≡◌, refl}
+use Prim.Native.Nat.{ℕ, zero, suc, ◌+◌, ◌/◌, ◌^◌, ◌≤◌, ◌<◌}
 use native.Mathlib.Omega.{arith}
-use native.Mathlib.Nat.{lt_irrefl, pow-suc, le_antisymm, lt_of_not-le, not-le_of_lt}
+use native.Mathlib.Nat.{pow-suc, le_antisymm, lt_of_not-le}
 use lib.Count.{count_leading_zeros, leading_top}
 use lib.Pow.{pow_mono, pow_pos}
 use Rattle.tree.specs.Node.{steps_up, depth, one_more_if}

@@ -1,12 +1,11 @@
 -- Any set of nodes of the tree is a set of blocks, and the other way round.
-use mathlib.Core.Path.{◌≡◌, refl, sym, ap, ap₂, ◌∙◌}
+use mathlib.Core.Path.{◌≡◌, refl, sym}
 use mathlib.Core.Bool.{Bool, true, false, ◌&&◌}
-use Prim.Native.Nat.{ℕ, zero, suc, ◌+◌, ◌-◌, ◌*◌, ◌^◌, ◌≤◌, ◌<◌}
+use Prim.Native.Nat.{ℕ, suc, ◌^◌}
 use borrow.Author.Tests.{ltb-true, lt-ltb, leb-true, le-leb}
 use lib.Dec.{ltb, leb}
-use Rattle.tree.specs.Node.{InTree}
 use Rattle.tree.specs.Held.{Nodes, Within}
-use Rattle.tree.specs.Block.{Block, past, node, block_of, Blocks, BWithin, blocks_of, nodes_of}
+use Rattle.tree.specs.Block.{past, node, block_of, Blocks, BWithin, blocks_of, nodes_of}
 use Rattle.tree.proofs.Coordinates.{node_in_tree, block_of_node}
 use Rattle.tree.proofs.Bridge.{SameSet}
 

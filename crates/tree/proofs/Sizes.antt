@@ -1,7 +1,7 @@
 -- The number held at a level is the same by number and by block.
-use mathlib.Core.Path.{◌≡◌, refl, sym, ap, ap₂, ◌∙◌}
-use mathlib.Core.Bool.{Bool, true, false, ◌&&◌, and-true}
-use Prim.Native.Nat.{ℕ, zero, suc, ◌+◌, ◌-◌, ◌*◌, ◌^◌, ◌≤◌, ◌<◌}
+use mathlib.Core.Path.{◌≡◌, sym, ap, ap₂, ◌∙◌}
+use mathlib.Core.Bool.{Bool, true, ◌&&◌, and-true}
+use Prim.Native.Nat.{ℕ, suc, ◌+◌, ◌-◌, ◌^◌, ◌≤◌, ◌<◌}
 use native.Mathlib.Omega.{arith}
 use native.Mathlib.Nat.{two-pow-succ}
 use native.Mathlib.Decide.{dec_le}
@@ -9,7 +9,7 @@ use borrow.Author.Tests.{eqb-true, eq-eqb}
 use lib.Dec.{eqb}
 use lib.Pow.{pow_mono}
 use Rattle.tree.specs.Node.{depth, level}
-use Rattle.tree.specs.Held.{Nodes, one_if, count, sizes}
+use Rattle.tree.specs.Held.{Nodes, one_if, sizes}
 use Rattle.tree.specs.Block.{Block, past, node, Blocks, bsizes}
 use Rattle.tree.specs.Pages.{sum}
 use Rattle.tree.proofs.Highest.{Highest, depth_highest}

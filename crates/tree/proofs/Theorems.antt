@@ -1,10 +1,9 @@
 -- What document 000 proves of sets of nodes, for every height: theorem 1 (a safe set is unique) and fact 1 (a legal set fits the pages).
 use mathlib.Core.Path.{◌≡◌, sym, ap, ◌∙◌}
-use mathlib.Core.Bool.{true}
-use Prim.Native.Nat.{ℕ, suc, ◌*◌, ◌^◌, ◌≤◌, ◌<◌}
+use Prim.Native.Nat.{ℕ, suc, ◌*◌, ◌^◌, ◌≤◌}
 use Rattle.tree.specs.Held.{Nodes, Held, Within, Legal, Safe, sizes}
-use Rattle.tree.specs.Block.{Blocks, block_of, bsizes, blocks_of, node}
-use Rattle.tree.specs.Pages.{sum, pages_of}
+use Rattle.tree.specs.Block.{Blocks, block_of, blocks_of}
+use Rattle.tree.specs.Pages.{pages_of}
 use Rattle.tree.proofs.Coordinates.{node_of_block}
 use Rattle.tree.proofs.Bridge.{SameSet, held_node, held_block, legal_blocks, safe_blocks}
 use Rattle.tree.proofs.Sets.{set_of_blocks}

@@ -1,16 +1,16 @@
 -- "Lies under" and "left of", by number and by block.
-use mathlib.Core.Path.{◌≡◌, refl, sym, ap, ap₂, ◌∙◌}
-use mathlib.Core.Logic.{◌⊎◌, inl, inr}
+use mathlib.Core.Path.{◌≡◌, refl}
+use mathlib.Core.Logic.{inl, inr}
 use Prim.Native.Nat.{ℕ, zero, suc, ◌+◌, ◌-◌, ◌*◌, ◌^◌, ◌≤◌, ◌<◌}
 use native.Mathlib.Omega.{arith}
-use native.Mathlib.Nat.{mul-le-mul_right, lt_of_mul-lt-mul_right, le_of_mul-le-mul_right, le_dest, pow-suc}
+use native.Mathlib.Nat.{mul-le-mul_right, le_of_mul-le-mul_right, le_dest, pow-suc}
 use native.Mathlib.Decide.{dec_lt}
-use lib.Pow.{pow-add, pow_pos, pow_mono}
-use Rattle.tree.specs.Node.{InTree, Child, Under, child, deeper, LeftOf}
+use lib.Pow.{pow-add, pow_pos}
+use Rattle.tree.specs.Node.{Child, Under, child, deeper, LeftOf}
 use Rattle.tree.specs.Block.{Block, first, past, node, Inside}
 use Rattle.tree.proofs.Highest.{Highest, highest_unique}
 use Rattle.tree.proofs.Align.{first_lt_past, scale}
-use Rattle.tree.proofs.Coordinates.{level_le, index_lt, node_highest, node_first, node_past}
+use Rattle.tree.proofs.Coordinates.{level_le, node_highest, node_first, node_past}
 
 -- the numbers under n, e + 1 levels down
 pub record Span (m n e : ℕ) : Type 0 where

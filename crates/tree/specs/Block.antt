@@ -1,6 +1,6 @@
 -- A node by its level and its index in the level, left to right from 0, and document 01's terms once more in these coordinates, in which
 -- all but "held" are inequalities between pages. `proofs/Bridge.antt` shows that they say the same; nothing but proofs uses them.
-use Rattle.std.specs.Prelude.{◌≡◌, Bool, true, false, ◌&&◌, ℕ, suc, ◌+◌, ◌-◌, ◌*◌, ◌^◌, ◌≤◌, ◌<◌, leb, ltb}
+use Rattle.std.specs.Prelude.{◌≡◌, Bool, true, ◌&&◌, ℕ, suc, ◌+◌, ◌-◌, ◌*◌, ◌^◌, ◌≤◌, ◌<◌, leb, ltb}
 use Rattle.tree.specs.Node.{depth}
 use Rattle.tree.specs.Node as Node
 use Rattle.tree.specs.Held.{Nodes, count}

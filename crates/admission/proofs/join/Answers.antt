@@ -1,6 +1,5 @@
 -- `admission::join` meets its contract: the checks decide, and a line that passes them has a place for the tenant.
 use mathlib.Core.Path.{sym, ap, ◌∙◌}
-use borrow.Author.Rules.{rules}
 use Rattle.line.proofs.Ordered.{in_form}
 use Rattle.rules.specs.Value.{answer_of}
 use Rattle.admission.specs.Step.{Outcome}

@@ -1,6 +1,5 @@
 -- `admission::open` meets its contract: the checks decide, and a table and a line of the right lengths are cleared.
 use mathlib.Core.Path.{ap, ap₂, ◌∙◌}
-use borrow.Author.Rules.{rules}
 use Rattle.rules.specs.Value.{answer_of}
 use Rattle.admission.specs.Step.{Outcome}
 use Rattle.admission.specs.Value.{lent}

@@ -2,7 +2,6 @@
 use mathlib.Core.Path.{◌≡◌, sym, ap, ◌∙◌}
 use Prim.Native.Nat.{ℕ}
 use native.Mathlib.Omega.{arith}
-use borrow.Author.Rules.{rules}
 use Rattle.line.specs.Line.{line_of, waiting_in}
 use Rattle.line.specs.Changes.{InForm, without}
 use Rattle.line.proofs.Ordered.{in_form}

@@ -1,12 +1,9 @@
 -- `bytewise::set_bits` meets its contract. The loop's invariant: the count so far, and the set bits from `i` on, make the whole.
-use mathlib.Core.Path.{◌≡◌}
-use Prim.Native.Nat.{◌+◌, ◌-◌, ◌*◌, ◌≤◌}
+use Prim.Native.Nat.{◌≤◌}
 use native.Mathlib.Numerals.{add-one}
 use native.Mathlib.Omega.{arith}
-use borrow.Author.Rules.{rules}
 use lib.Count.{ones, ones-le}
-use lib.ListN.{length, get_or, drop}
-use Rattle.pagemap.specs.Count.{set_bits}
+use lib.ListN.{get_or}
 use Rattle.bytewise.proofs.Bytes.{set_bits_from, set_bits_from_end}
 use Rattle.bytewise.proofs.set_bits.Goals as goal
 

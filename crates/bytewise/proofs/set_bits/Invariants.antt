@@ -1,13 +1,8 @@
 -- `bytewise::set_bits` meets its contract. The loop's invariant: the count so far, and the set bits from `i` on, make the whole.
 use mathlib.Core.Path.{◌≡◌}
 use Prim.Native.Nat.{◌+◌, ◌-◌, ◌*◌, ◌≤◌}
-use native.Mathlib.Numerals.{add-one}
-use native.Mathlib.Omega.{arith}
-use borrow.Author.Rules.{rules}
-use lib.Count.{ones, ones-le}
-use lib.ListN.{length, get_or, drop}
+use lib.ListN.{length, drop}
 use Rattle.pagemap.specs.Count.{set_bits}
-use Rattle.bytewise.proofs.Bytes.{set_bits_from, set_bits_from_end}
 use Rattle.bytewise.proofs.set_bits.Given as goal
 
 abbrev pub invariant-loop-i : goal.invariant-loop-i

@@ -1,7 +1,6 @@
 -- `calls::open` meets its contract: the checks decide, and a table of 4,096 entries is cleared.
 use mathlib.Core.Path.{◌≡◌, ap, ◌∙◌}
 use Prim.Native.Nat.{ℕ}
-use borrow.Author.Rules.{rules}
 use lib.ListN.{replicate}
 use Rattle.rules.specs.Step.{Outcome}
 use Rattle.rules.specs.Value.{answer_of}

@@ -1,5 +1,4 @@
 -- `calls::run` meets its contract: what the arguments refuse, and else what the table decides.
-use borrow.Author.Rules.{rules}
 use Rattle.rules.specs.Value.{call_of}
 use Rattle.rules.proofs.Given.{gives_same}
 use Rattle.calls.proofs.Calling.{call_refused, ready_to_change, sized_to_change, changes}

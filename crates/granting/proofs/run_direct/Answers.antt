@@ -1,7 +1,5 @@
 -- `granting::run_direct` meets its contract: a grant goes behind the line, and a release or a growth to the table alone.
-use borrow.Author.Rules.{rules}
-use mathlib.Core.Path.{◌≡◌, refl, sym, ap, ◌∙◌}
-use lib.ListN.{length}
+use mathlib.Core.Path.{refl, sym, ap, ◌∙◌}
 use Rattle.rules.specs.Step.{first}
 use Rattle.calls.proofs.Calling.{ready_to_change, sized_to_change}
 use Rattle.granting.proofs.Behind.{level_asked, pages_asked, settled, release_given, growth_given}

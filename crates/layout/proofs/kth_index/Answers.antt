@@ -1,6 +1,5 @@
 -- `layout::kth_index` meets its contract, by its three cases.
 use borrow.Author.Tests.{lt-ltb, le-ltb, eq-eqb, ne_eqb}
-use borrow.Author.Rules.{rules}
 use Rattle.layout.proofs.kth_index.Goals as goal
 
 pub returns-then-k-run : goal.returns-then-k-run

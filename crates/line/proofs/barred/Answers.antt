@@ -1,14 +1,11 @@
 -- `line::barred` meets its contract. The loop's invariant: somebody from place i on was passed eight times exactly if anybody was. The measure is
 -- what is left.
 use mathlib.Core.Path.{◌≡◌, sym, ap, ◌∙◌}
-use Prim.Native.Nat.{◌-◌, ◌≤◌}
 use native.Mathlib.Omega.{arith}
-use borrow.Author.Rules.{rules}
-use lib.ListN.{length}
-use Rattle.line.specs.Line.{waiting_in, waiting_count}
+use Rattle.line.specs.Line.{waiting_count}
 use Rattle.line.specs.Changes.{barred}
 use Rattle.line.proofs.Numbers.{length_in_form, count_in_form}
-use Rattle.line.proofs.Scans.{from_place, from_first, barred_none, barred_here, barred_further}
+use Rattle.line.proofs.Scans.{from_first, barred_none, barred_here, barred_further}
 use Rattle.line.proofs.barred.Goals as goal
 
 pub bounds-line-0 : goal.bounds-line-0

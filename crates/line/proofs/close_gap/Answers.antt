@@ -1,10 +1,7 @@
 -- `line::close_gap` meets its contract. The loop's invariant: the numbers up to i are copied. The measure is what is left.
-use mathlib.Core.Path.{◌≡◌, sym, ◌∙◌}
-use Prim.Native.Nat.{◌+◌, ◌-◌, ◌≤◌}
+use mathlib.Core.Path.{sym, ◌∙◌}
 use native.Mathlib.Omega.{arith}
-use borrow.Author.Rules.{rules}
-use lib.ListN.{length, drop, length-set}
-use lib.Seq.{paste}
+use lib.ListN.{length-set}
 use Rattle.line.proofs.Gap.{copied_none, copied_more, copied_all}
 use Rattle.line.proofs.close_gap.Goals as goal
 

@@ -1,11 +1,8 @@
 -- `line::close_gap` meets its contract. The loop's invariant: the numbers up to i are copied. The measure is what is left.
-use mathlib.Core.Path.{◌≡◌, sym, ◌∙◌}
+use mathlib.Core.Path.{◌≡◌}
 use Prim.Native.Nat.{◌+◌, ◌-◌, ◌≤◌}
-use native.Mathlib.Omega.{arith}
-use borrow.Author.Rules.{rules}
-use lib.ListN.{length, drop, length-set}
+use lib.ListN.{length, drop}
 use lib.Seq.{paste}
-use Rattle.line.proofs.Gap.{copied_none, copied_more, copied_all}
 use Rattle.line.proofs.close_gap.Given as goal
 
 abbrev pub invariant-loop-i : goal.invariant-loop-i

@@ -1,6 +1,5 @@
 -- `line::in_order` meets its contract: it tests one condition after the other.
 use mathlib.Core.Path.{sym, ◌∙◌}
-use borrow.Author.Rules.{rules}
 use Rattle.line.proofs.Ordered.{disorder_many, disorder_used, in_order_if_orderly}
 use Rattle.line.proofs.in_order.Goals as goal
 

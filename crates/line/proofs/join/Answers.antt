@@ -1,7 +1,6 @@
 -- `line::join` meets its contract.
 use mathlib.Core.Path.{sym}
 use native.Mathlib.Omega.{arith}
-use borrow.Author.Rules.{rules}
 use lib.ListN.{length-set}
 use Rattle.line.specs.Line.{waiting_in, waiting_count}
 use Rattle.line.proofs.Numbers.{length_in_form, length_standing, line_joined}

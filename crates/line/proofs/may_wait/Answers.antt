@@ -1,5 +1,4 @@
 -- `line::may_wait` meets its contract: it tests one condition after the other.
-use borrow.Author.Rules.{rules}
 use borrow.Author.Tests.{le-leb, lt-leb}
 use Rattle.line.specs.Line.{at}
 use Rattle.line.proofs.may_wait.Goals as goal

@@ -1,12 +1,9 @@
 -- `line::orderly` meets its contract. The loop's invariant: those from place i on are orderly exactly if all are. The measure is what is left.
-use mathlib.Core.Path.{◌≡◌, sym, ap, ◌∙◌}
+use mathlib.Core.Path.{◌≡◌}
 use Prim.Native.Nat.{◌-◌, ◌≤◌}
-use native.Mathlib.Omega.{arith}
-use borrow.Author.Rules.{rules}
-use borrow.Author.Tests.{not-true, not-false}
 use Rattle.line.specs.Line.{standing}
 use Rattle.line.specs.Order.{orderly?}
-use Rattle.line.proofs.Scans.{from_place, from_first, orderly_none, disorder_here, disorder_behind, orderly_further}
+use Rattle.line.proofs.Scans.{from_place}
 use Rattle.line.proofs.orderly.Given as goal
 
 abbrev pub invariant-loop-i : goal.invariant-loop-i

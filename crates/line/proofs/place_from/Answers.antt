@@ -1,10 +1,7 @@
 -- `line::place_from` meets its contract. The loop's invariant: the place from i on is the place from `from` on. The measure is what is left.
 use mathlib.Core.Path.{◌≡◌, refl, sym, ◌∙◌}
-use Prim.Native.Nat.{◌+◌, ◌-◌, ◌≤◌}
 use native.Mathlib.Omega.{arith}
-use borrow.Author.Rules.{rules}
-use Rattle.line.specs.Changes.{place_of}
-use Rattle.line.proofs.Scans.{from_place, place_none, place_here, place_further}
+use Rattle.line.proofs.Scans.{place_none, place_here, place_further}
 use Rattle.line.proofs.place_from.Goals as goal
 
 pub loop-i-init : goal.loop-i-init

@@ -1,10 +1,8 @@
 -- `line::place_from` meets its contract. The loop's invariant: the place from i on is the place from `from` on. The measure is what is left.
-use mathlib.Core.Path.{◌≡◌, refl, sym, ◌∙◌}
+use mathlib.Core.Path.{◌≡◌}
 use Prim.Native.Nat.{◌+◌, ◌-◌, ◌≤◌}
-use native.Mathlib.Omega.{arith}
-use borrow.Author.Rules.{rules}
 use Rattle.line.specs.Changes.{place_of}
-use Rattle.line.proofs.Scans.{from_place, place_none, place_here, place_further}
+use Rattle.line.proofs.Scans.{from_place}
 use Rattle.line.proofs.place_from.Given as goal
 
 abbrev pub invariant-loop-i : goal.invariant-loop-i

@@ -1,14 +1,9 @@
 -- `pagemap::byte` meets its contract. The loop's invariant: the bits from `b` on, shifted to their places, and those below make the byte.
-use mathlib.Core.Path.{◌≡◌, refl, ◌∙◌}
-use Prim.Native.Nat.{ℕ, ◌+◌, ◌-◌, ◌*◌, ◌^◌, ◌≤◌, ◌<◌}
-use native.Mathlib.Nat.{le-mul_of_pos_right}
-use native.Mathlib.Omega.{arith}
-use borrow.Author.Rules.{rules}
+use mathlib.Core.Path.{◌≡◌}
+use Prim.Native.Nat.{◌+◌, ◌*◌, ◌^◌, ◌≤◌}
 use lib.ListN.{get_or}
-use lib.Pow.{pow_pos}
 use Rattle.tree.specs.Pages.{sum}
 use Rattle.pagemap.specs.Map.{byte_of}
-use Rattle.pagemap.proofs.Bits.{shift_in, byte_of_bits}
 use Rattle.pagemap.proofs.byte.Given as goal
 
 abbrev pub invariant-loop-b : goal.invariant-loop-b

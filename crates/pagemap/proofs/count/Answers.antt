@@ -1,6 +1,5 @@
 -- `pagemap::count` meets its contract, for a map of 512 bytes or more and for a shorter one.
 use native.Mathlib.Omega.{arith}
-use borrow.Author.Rules.{rules}
 use borrow.Author.Tests.{lt-ltb, le-ltb}
 use lib.ListN.{length}
 use Rattle.pagemap.specs.Count.{counted}

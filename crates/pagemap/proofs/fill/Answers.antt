@@ -1,12 +1,11 @@
 -- `pagemap::fill` meets its contract. The loop's invariant: the flags from `from` to before `i` are set.
-use mathlib.Core.Path.{◌≡◌, sym, ap, ◌∙◌}
+use mathlib.Core.Path.{sym, ap, ◌∙◌}
 use mathlib.Core.List.{List}
-use Prim.Native.Nat.{ℕ, ◌-◌, ◌≤◌, max}
+use Prim.Native.Nat.{ℕ}
 use native.Mathlib.Numerals.{add-one}
 use native.Mathlib.Omega.{arith}
 use borrow.Author.Rules.{rules}
 use lib.ListN.{set}
-use Rattle.pagemap.specs.Flags.{filled}
 use Rattle.pagemap.proofs.Filled.{filled_none, filled_more, filled_same}
 use Rattle.pagemap.proofs.fill.Goals as goal
 

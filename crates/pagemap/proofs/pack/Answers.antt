@@ -1,12 +1,11 @@
 -- `pagemap::pack` meets its contract. The loop's invariant: the first `j` bytes are written, and the others are as they were.
 use mathlib.Core.Path.{◌≡◌, sym, ap, ap₂, ◌∙◌}
-use mathlib.Core.List.{List, ◌++◌}
-use Prim.Native.Nat.{ℕ, ◌-◌, ◌≤◌}
+use mathlib.Core.List.{List}
+use Prim.Native.Nat.{ℕ}
 use native.Mathlib.Numerals.{add-one}
 use native.Mathlib.Omega.{arith}
 use borrow.Author.Rules.{rules}
-use lib.ListN.{length, get_or, set, drop}
-use Rattle.pagemap.specs.Map.{bytes_of}
+use lib.ListN.{length, get_or, set}
 use Rattle.pagemap.proofs.Bits.{no_bytes, byte_more, written_length}
 use Rattle.pagemap.proofs.pack.Goals as goal
 

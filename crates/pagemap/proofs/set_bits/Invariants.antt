@@ -1,13 +1,9 @@
 -- `pagemap::set_bits` meets its contract. The loop's invariant: the count so far is that of the numbers before number `k`.
-use mathlib.Core.Path.{◌≡◌, refl, sym, ap, ◌∙◌}
-use Prim.Native.Nat.{ℕ, ◌+◌, ◌-◌, ◌*◌, ◌≤◌}
-use native.Mathlib.Numerals.{add-one}
-use native.Mathlib.Omega.{arith}
-use borrow.Author.Rules.{rules}
-use lib.Count.{ones, ones-le}
+use mathlib.Core.Path.{◌≡◌}
+use Prim.Native.Nat.{◌-◌, ◌*◌, ◌≤◌}
+use lib.Count.{ones}
 use Rattle.tree.specs.Pages.{sum}
 use Rattle.pagemap.specs.Numbers.{number_at}
-use Rattle.pagemap.proofs.Numbers.{number_of_part, set_bits_by_number}
 use Rattle.pagemap.proofs.set_bits.Given as goal
 
 abbrev pub invariant-loop-k : goal.invariant-loop-k

@@ -1,5 +1,4 @@
 -- `perform_by_value` meets its contract: a list of seven entries is as good as any that the call takes.
-use borrow.Author.Rules.{rules}
 use Rattle.admission.specs.Value.{lent}
 use Rattle.admission.proofs.Answering.{admitted_same}
 use Rattle.admission.proofs.Requests.{seven_enough}

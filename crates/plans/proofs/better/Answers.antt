@@ -1,7 +1,6 @@
 -- `plan::better` meets its contract: each answer by the tests that led to it.
 use mathlib.Core.Path.{sym, ◌∙◌}
 use mathlib.Core.Bool.{and-false}
-use borrow.Author.Rules.{rules}
 use borrow.Author.Tests.{le-leb, lt-leb, lt-ltb, le-ltb}
 use Rattle.plans.specs.Plan.{better_of}
 use Rattle.plans.proofs.better.Goals as goal

@@ -1,6 +1,5 @@
 -- `plan::least` meets its contract: the seven tries give the least.
 use native.Mathlib.Omega.{arith}
-use borrow.Author.Rules.{rules}
 use Rattle.plans.proofs.LeastIndex.{least_of_seven}
 use Rattle.plans.proofs.least.Goals as goal
 

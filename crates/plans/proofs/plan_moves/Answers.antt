@@ -1,9 +1,7 @@
 -- `plan::plan_moves` meets its contract: before each level the plan has the moves of the levels below.
-use Prim.Native.Nat.{suc, ◌-◌}
 use native.Mathlib.Omega.{arith}
-use borrow.Author.Rules.{rules}
 use mathlib.Core.Path.{refl}
-use Rattle.plans.proofs.Planning.{Planning, planning_begins, room_for_level, planning_goes_on, planning_ends}
+use Rattle.plans.proofs.Planning.{planning_begins, room_for_level, planning_goes_on, planning_ends}
 use Rattle.plans.proofs.plan_moves.Goals as goal
 
 pub loop-level-init : goal.loop-level-init

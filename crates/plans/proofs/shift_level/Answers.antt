@@ -1,6 +1,5 @@
 -- `plan::shift_level` meets its contract: nothing changes from a row to itself.
 use mathlib.Core.Path.{◌∙◌, sym}
-use borrow.Author.Rules.{rules}
 use Rattle.plans.proofs.Shifting.{same_row_unshifted}
 use Rattle.plans.proofs.shift_level.Goals as goal
 

@@ -1,6 +1,4 @@
 -- `reserve::changed` meets its contract: a join or a withdrawal has its own function.
-use mathlib.Core.Path.{◌≡◌}
-use borrow.Author.Rules.{rules}
 use Rattle.reserve.proofs.Behind.{answer_number}
 use Rattle.reserve.proofs.changed.Goals as goal
 

@@ -8,7 +8,6 @@ use Rattle.plans.specs.Plan.{moves_in}
 use Rattle.rules.specs.Value.{number_of, value_of}
 use Rattle.table.proofs.Arrays.{length_of_mapped}
 use Rattle.reserve.proofs.Reports.{report_refused, report_done}
-use borrow.Author.Rules.{rules}
 use Rattle.reserve.proofs.finish.Goals as goal
 
 pub returns-then-number-gt0 : goal.returns-then-number-gt0

@@ -1,6 +1,5 @@
 -- `lent_count` meets its contract: two bytes for each number.
 use Prim.Native.Nat.{◌*◌}
-use borrow.Author.Rules.{rules}
 use borrow.Author.Tests.{eq-eqb, ne_eqb}
 use Rattle.reserve.proofs.lent_count.Goals as goal
 

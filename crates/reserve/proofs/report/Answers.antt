@@ -1,6 +1,5 @@
 -- `report` meets its contract: `finish` reports the table and the moves, and only an answer 0 writes the line.
 use mathlib.Core.Path.{◌≡◌, sym, ◌∙◌}
-use borrow.Author.Rules.{rules}
 use borrow.Author.Tests.{eq-eqb, ne_eqb}
 use Rattle.rules.specs.Value.{number_of}
 use Rattle.reserve.proofs.report.Goals as goal

@@ -1,5 +1,4 @@
 -- `reserve_admit` meets its contract, by that of `run`.
-use borrow.Author.Rules.{rules}
 use Rattle.reserve.specs.Door.{an_admit}
 use Rattle.reserve.proofs.reserve_admit.Goals as goal
 

@@ -1,5 +1,4 @@
 -- `reserve_grant_level` meets its contract, by that of `run`.
-use borrow.Author.Rules.{rules}
 use Rattle.reserve.specs.Door.{by_level}
 use Rattle.reserve.proofs.reserve_grant_level.Goals as goal
 

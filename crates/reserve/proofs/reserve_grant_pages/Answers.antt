@@ -1,5 +1,4 @@
 -- `reserve_grant_pages` meets its contract, by that of `run`.
-use borrow.Author.Rules.{rules}
 use Rattle.reserve.specs.Door.{by_pages}
 use Rattle.reserve.proofs.reserve_grant_pages.Goals as goal
 

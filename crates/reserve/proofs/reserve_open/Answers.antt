@@ -1,5 +1,4 @@
 -- `reserve_open` meets its contract: only the lengths decide whether it is refused, and then every byte stays, else all become 0.
-use borrow.Author.Rules.{rules}
 use Rattle.reserve.proofs.Behind.{open_refused, open_done}
 use Rattle.reserve.proofs.reserve_open.Goals as goal
 

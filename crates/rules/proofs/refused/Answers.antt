@@ -1,6 +1,5 @@
 -- `rules::refused` meets its contract: the plan that it hands back is empty.
 use mathlib.Core.Path.{refl}
-use borrow.Author.Rules.{rules}
 use Rattle.rules.proofs.Given.{refusal_answer}
 use Rattle.rules.proofs.refused.Goals as goal
 

@@ -2,7 +2,6 @@
 use mathlib.Core.Path.{sym}
 use Prim.Native.Nat.{◌+◌, ◌-◌, zero-le}
 use native.Mathlib.Omega.{arith}
-use borrow.Author.Rules.{rules}
 use Rattle.tree.specs.Node.{depth}
 use Rattle.tree.proofs.Highest.{leading_depth}
 use Rattle.sizes.proofs.Level.{least_level_is, least_by_depth}

@@ -1,7 +1,6 @@
 -- `sizes::level_for` meets its contract: no size takes level 4 or the height, and any other the smallest level for one page more.
 use mathlib.Core.Path.{sym, ◌∙◌}
 use native.Mathlib.Omega.{arith}
-use borrow.Author.Rules.{rules}
 use Rattle.sizes.proofs.Level.{level_for_named}
 use Rattle.sizes.proofs.level_for.Goals as goal
 

@@ -1,6 +1,5 @@
 -- `all` meets its contract.
 use native.Mathlib.Omega.{arith}
-use borrow.Author.Rules.{rules}
 use lib.Pow.{pow_pos}
 use Rattle.staging.proofs.all.Goals as goal
 

@@ -1,10 +1,8 @@
 -- `all_gone` meets its contract: what the movers that may still go leave is what all leave.
-use mathlib.Core.Path.{◌≡◌, refl, sym, ◌∙◌}
-use native.Mathlib.Omega.{arith}
-use borrow.Author.Rules.{rules}
+use mathlib.Core.Path.{◌≡◌}
 use Rattle.staging.specs.Graph.{away}
 use Rattle.staging.specs.Choice.{has, graph_of, order_of}
-use Rattle.staging.proofs.Steps.{left_of, nobody_left, none_may_go, one_goes, next_le}
+use Rattle.staging.proofs.Steps.{left_of}
 use Rattle.staging.proofs.all_gone.Given as goal
 
 abbrev pub invariant-loop-left : goal.invariant-loop-left

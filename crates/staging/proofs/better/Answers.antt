@@ -1,6 +1,5 @@
 -- `better` meets its contract.
 use mathlib.Core.Path.{sym, ◌∙◌}
-use borrow.Author.Rules.{rules}
 use Rattle.staging.specs.Choice.{graph_of}
 use Rattle.staging.proofs.Steps.{better_by_groups}
 use Rattle.staging.proofs.better.Goals as goal

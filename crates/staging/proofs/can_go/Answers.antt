@@ -1,7 +1,6 @@
 -- `can_go` meets its contract.
 use mathlib.Core.Path.{sym, ◌∙◌}
 use native.Mathlib.Omega.{arith}
-use borrow.Author.Rules.{rules}
 use Rattle.staging.specs.Choice.{has}
 use Rattle.staging.proofs.Steps.{gone_cannot_go, can_go_by_groups}
 use Rattle.staging.proofs.can_go.Goals as goal

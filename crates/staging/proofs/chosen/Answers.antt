@@ -1,10 +1,9 @@
 -- `chosen` meets its contract: the best of `best` and the groups below `group` is the best of all.
-use mathlib.Core.Path.{◌≡◌, sym, ap, ◌∙◌}
-use Prim.Native.Nat.{ℕ, ◌≤◌}
+use mathlib.Core.Path.{sym, ap, ◌∙◌}
+use Prim.Native.Nat.{ℕ}
 use native.Mathlib.Omega.{arith}
-use borrow.Author.Rules.{rules}
 use lib.Pow.{pow_pos}
-use Rattle.staging.specs.Choice.{graph_of, best_below, everyone, chosen_of, Prices}
+use Rattle.staging.specs.Choice.{graph_of, best_below, chosen_of}
 use Rattle.staging.proofs.Steps.{free_by_groups, best_goes_on, best_ends}
 use Rattle.staging.proofs.chosen.Goals as goal
 

@@ -1,12 +1,8 @@
 -- `cost` meets its contract: the sum over the movers below `k`.
-use mathlib.Core.Path.{◌≡◌, refl}
-use Prim.Native.Nat.{◌+◌, ◌-◌, ◌*◌, ◌≤◌}
+use mathlib.Core.Path.{refl}
 use native.Mathlib.Omega.{arith}
-use borrow.Author.Rules.{rules}
-use lib.ListN.{get_or}
-use Rattle.staging.specs.Graph.{sum_over}
 use Rattle.staging.specs.Choice.{has}
-use Rattle.staging.proofs.Steps.{most, one_more, cost_of_all}
+use Rattle.staging.proofs.Steps.{one_more, cost_of_all}
 use Rattle.staging.proofs.cost.Goals as goal
 
 pub loop-k-init : goal.loop-k-init

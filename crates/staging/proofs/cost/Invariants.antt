@@ -1,12 +1,10 @@
 -- `cost` meets its contract: the sum over the movers below `k`.
-use mathlib.Core.Path.{◌≡◌, refl}
+use mathlib.Core.Path.{◌≡◌}
 use Prim.Native.Nat.{◌+◌, ◌-◌, ◌*◌, ◌≤◌}
-use native.Mathlib.Omega.{arith}
-use borrow.Author.Rules.{rules}
 use lib.ListN.{get_or}
 use Rattle.staging.specs.Graph.{sum_over}
 use Rattle.staging.specs.Choice.{has}
-use Rattle.staging.proofs.Steps.{most, one_more, cost_of_all}
+use Rattle.staging.proofs.Steps.{most}
 use Rattle.staging.proofs.cost.Given as goal
 
 abbrev pub invariant-loop-k : goal.invariant-loop-k

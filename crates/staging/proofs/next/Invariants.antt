@@ -1,10 +1,7 @@
 -- `next` meets its contract: nobody from `k` on can go.
-use mathlib.Core.Path.{◌≡◌, refl, sym, ◌∙◌}
+use mathlib.Core.Path.{◌≡◌}
 use Prim.Native.Nat.{◌≤◌}
-use native.Mathlib.Omega.{arith}
-use borrow.Author.Rules.{rules}
 use Rattle.staging.specs.Choice.{highest, can_go?, next_of, has, graph_of}
-use Rattle.staging.proofs.Highest.{highest_goes_on, highest_found, none_left}
 use Rattle.staging.proofs.next.Given as goal
 
 abbrev pub invariant-loop-k : goal.invariant-loop-k

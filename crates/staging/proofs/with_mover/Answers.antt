@@ -1,6 +1,5 @@
 -- `with_mover` meets its contract, digit by digit.
 use mathlib.Core.Path.{◌∙◌, ap}
-use borrow.Author.Rules.{rules}
 use lib.Bits.{bit_or}
 use Rattle.staging.specs.Choice.{has}
 use Rattle.staging.proofs.Bits.{has_joined}

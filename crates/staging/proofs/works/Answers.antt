@@ -1,6 +1,5 @@
 -- `works` meets its contract.
 use mathlib.Core.Path.{◌∙◌}
-use borrow.Author.Rules.{rules}
 use Rattle.staging.proofs.Steps.{works_by_groups}
 use Rattle.staging.proofs.works.Goals as goal
 

@@ -1,6 +1,5 @@
 -- `survey::held` meets its contract: before each level the sum is that of the levels below, each with at most 65,535 blocks.
 use mathlib.Core.Path.{◌≡◌}
-use Prim.Native.Nat.{ℕ, ◌-◌, ◌*◌, ◌≤◌}
 use native.Mathlib.Numerals.{add-one}
 use native.Mathlib.Omega.{arith}
 use borrow.Author.Rules.{rules}

@@ -1,11 +1,6 @@
 -- `survey::held` meets its contract: before each level the sum is that of the levels below, each with at most 65,535 blocks.
 use mathlib.Core.Path.{◌≡◌}
 use Prim.Native.Nat.{ℕ, ◌-◌, ◌*◌, ◌≤◌}
-use native.Mathlib.Numerals.{add-one}
-use native.Mathlib.Omega.{arith}
-use borrow.Author.Rules.{rules}
-use mir.Syntax.{w16}
-use mir.Val.{Fits}
 use lib.ListN.{get_or}
 use Rattle.tree.specs.Pages.{sum}
 use Rattle.survey.proofs.held.Given as goal

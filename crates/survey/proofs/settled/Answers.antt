@@ -4,11 +4,10 @@ use mathlib.Core.Path.{◌≡◌}
 use Prim.Native.Nat.{suc, ◌-◌, ◌^◌, ◌≤◌}
 use native.Mathlib.Omega.{arith}
 use borrow.Author.Rules.{rules}
-use borrow.Author.Tests.{not-true, not-false}
 use lib.ListN.{length}
 use Rattle.layout.specs.Layout.{pages}
 use Rattle.layout.proofs.Bounds.{power_le_4096}
-use Rattle.survey.proofs.Looked.{Looked, looked_none, looked_all, looked_gap, looked_next, run_in_nodes, lone_in_nodes}
+use Rattle.survey.proofs.Looked.{looked_none, looked_all, looked_gap, looked_next, run_in_nodes, lone_in_nodes}
 use Rattle.survey.proofs.settled.Goals as goal
 
 pub layout-rows-requires : goal.layout-rows-requires

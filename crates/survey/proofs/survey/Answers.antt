@@ -4,8 +4,6 @@ use mathlib.Core.Bool.{true}
 use mathlib.Core.List.{List}
 use Prim.Native.Nat.{ℕ}
 use native.Mathlib.Omega.{arith}
-use borrow.Author.Rules.{rules}
-use borrow.Author.Tests.{not-true, not-false}
 use Rattle.table.specs.Owners.{stored_if, level_counts}
 use Rattle.survey.specs.Survey.{inside, owners_found, Gathered}
 use Rattle.survey.proofs.Surveyed.{found_past, found_inside}

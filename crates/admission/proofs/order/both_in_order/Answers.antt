@@ -1,5 +1,4 @@
 -- `admission::order::both_in_order` meets its contract: the survey tells of the table, and then the line is looked at.
-use borrow.Author.Rules.{rules}
 use mathlib.Core.Path.{sym, ◌∙◌}
 use borrow.Author.Tests.{not-true, not-false}
 use Rattle.survey.proofs.Surveyed.{Surveyed, surveyed}

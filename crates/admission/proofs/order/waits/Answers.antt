@@ -1,6 +1,5 @@
 -- `admission::order::waits` meets its contract: a tenant waits if its place is not behind the last.
 use native.Mathlib.Omega.{arith}
-use borrow.Author.Rules.{rules}
 use Rattle.line.specs.Line.{waiting_in, waiting_count}
 use Rattle.line.proofs.Numbers.{length_standing, length_in_form, count_in_form}
 use Rattle.line.proofs.Places.{waits_by_place}

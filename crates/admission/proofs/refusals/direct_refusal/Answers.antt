@@ -1,5 +1,4 @@
 -- `admission::refusals::direct_refusal` meets its contract: a grant takes a line, and a release and a growth take none.
-use borrow.Author.Rules.{rules}
 use mathlib.Core.Path.{ap, ◌∙◌}
 use Rattle.rules.specs.Step.{first}
 use Rattle.admission.proofs.Requests.{checks_of_level, checks_of_pages, checks_of_release, checks_of_growth}

@@ -1,6 +1,5 @@
 -- `admission::refusals::grant_refusal` meets its contract: what 1 and 2 decide of table and line, and else what 1 to 6 do of the grant.
 use mathlib.Core.Path.{sym, ◌∙◌}
-use borrow.Author.Rules.{rules}
 use Rattle.rules.specs.Step.{validity}
 use Rattle.rules.specs.Value.{call_of}
 use Rattle.admission.specs.Step.{lent_checks}

@@ -1,7 +1,6 @@
 -- `admission::refusals::level_refusal` meets its contract: what 1, 2 and 4 decide, and else what 5 does.
 use mathlib.Core.List.{[], ◌∷◌, ◌++◌}
 use native.Mathlib.Omega.{arith}
-use borrow.Author.Rules.{rules}
 use borrow.Author.Tests.{lt-ltb, le-ltb}
 use lib.Dec.{ltb}
 use Rattle.rules.specs.Step.{check}

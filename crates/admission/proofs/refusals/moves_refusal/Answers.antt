@@ -1,6 +1,5 @@
 -- `admission::refusals::moves_refusal` meets its contract: what 1 and 2 decide, and else what 3 does.
 use mathlib.Core.List.{[], ◌∷◌}
-use borrow.Author.Rules.{rules}
 use borrow.Author.Tests.{lt-ltb, le-ltb}
 use lib.Dec.{ltb}
 use Rattle.rules.specs.Step.{check}

@@ -1,6 +1,4 @@
 -- `admission::refusals::refusal` meets its contract, by the kind of request.
-use borrow.Author.Rules.{rules}
-use mathlib.Core.Path.{◌≡◌}
 use Rattle.admission.proofs.refusals.refusal.Goals as goal
 
 pub returns-in-Direct : goal.returns-in-Direct

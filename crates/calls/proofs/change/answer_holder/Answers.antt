@@ -1,7 +1,6 @@
 -- `calls::change::answer_holder` meets its contract: the node that is held, if it is of the level asked for, and otherwise 8.
 use mathlib.Core.Path.{refl}
 use native.Mathlib.Omega.{arith}
-use borrow.Author.Rules.{rules}
 use Rattle.calls.proofs.Changing.{holder_of_level, holder_of_another}
 use Rattle.rules.proofs.Given.{gives_same}
 use Rattle.calls.proofs.change.answer_holder.Goals as goal

@@ -1,5 +1,4 @@
 -- `calls::change::change` meets its contract: a table that is not in order is refused, and on any other the call goes on with what the survey shows.
-use borrow.Author.Rules.{rules}
 use mathlib.Core.Path.{sym, ◌∙◌}
 use borrow.Author.Tests.{not-true, not-false}
 use Rattle.survey.proofs.Surveyed.{Surveyed, surveyed}

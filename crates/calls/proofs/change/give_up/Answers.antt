@@ -2,7 +2,6 @@
 use Rattle.calls.proofs.Changing.{release_by_nobody, release_by_holder}
 use Rattle.calls.proofs.Changed.{release_gives}
 use Rattle.rules.proofs.Given.{above_zero, gives_same}
-use borrow.Author.Rules.{rules}
 use mathlib.Core.Path.{◌≡◌, sym, ap, subst, ◌∙◌}
 use mathlib.Core.List.{List}
 use Prim.Native.Nat.{ℕ}

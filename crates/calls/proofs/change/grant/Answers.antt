@@ -1,7 +1,6 @@
 -- `calls::change::grant` meets its contract: a holder is answered without a change, and any other comes as a newcomer.
 use Rattle.calls.proofs.Changing.{grant_to_holder, grant_places}
 use Rattle.rules.proofs.Given.{above_zero, gives_same}
-use borrow.Author.Rules.{rules}
 use Rattle.calls.proofs.change.grant.Goals as goal
 
 pub returns-then-node-ne0 : goal.returns-then-node-ne0

@@ -1,5 +1,4 @@
 -- `calls::change::has_room` meets its contract: the pages held and the block's, against the reserve's.
-use borrow.Author.Rules.{rules}
 use Rattle.calls.proofs.change.has_room.Goals as goal
 
 pub returns : goal.returns

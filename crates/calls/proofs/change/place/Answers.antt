@@ -1,10 +1,9 @@
 -- `calls::change::place` meets its contract: no room, or the others resettled and the tenant in the place that they leave over.
-use borrow.Author.Rules.{rules}
 use mathlib.Core.Path.{◌≡◌, sym, ap, subst, ◌∙◌}
 use mathlib.Core.List.{List}
 use Prim.Native.Nat.{ℕ, ◌+◌, ◌^◌, ◌≤◌}
 use native.Mathlib.Omega.{arith}
-use borrow.Author.Tests.{leb-true, leb-false, not-true, not-false}
+use borrow.Author.Tests.{leb-true, leb-false}
 use Rattle.layout.specs.Layout.{pages}
 use Rattle.layout.specs.Change.{one_block_more}
 use Rattle.layout.specs.Counts.{more}

@@ -12,7 +12,6 @@ use Rattle.plans.specs.declared.Planned.{Planned}
 use Rattle.plans.proofs.Written.{written_length}
 use Rattle.calls.proofs.Changing.{of_looked, of_table}
 use Rattle.calls.proofs.Changed.{old_counts_fit, target_fits, target_plannable, target_tenants, target_orderable, target_resettled}
-use borrow.Author.Rules.{rules}
 use Rattle.calls.proofs.change.resettle.Goals as goal
 
 pub layout-requires : goal.layout-requires

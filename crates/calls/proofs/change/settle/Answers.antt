@@ -1,5 +1,4 @@
 -- `calls::change::settle` meets its contract: the call goes by its kind.
-use borrow.Author.Rules.{rules}
 use mathlib.Core.Path.{◌≡◌, sym, ap, subst, ◌∙◌}
 use native.Mathlib.Omega.{arith}
 use Rattle.rules.specs.Call.{tenant_of}

@@ -1,6 +1,5 @@
 -- `calls::change::without` meets its contract.
 use mathlib.Core.Path.{ap, ◌∙◌}
-use borrow.Author.Rules.{rules}
 use borrow.Author.Tests.{eq-eqb, ne_eqb}
 use Rattle.layout.specs.Change.{one_block_fewer}
 use Rattle.calls.specs.Changes.{without}

@@ -2,7 +2,6 @@
 use mathlib.Core.Path.{sym, ◌∙◌}
 use Rattle.rules.specs.Step.{length_checks, list_checks}
 use native.Mathlib.Omega.{arith}
-use borrow.Author.Rules.{rules}
 use Rattle.rules.proofs.Checks.{first_after_none, first_stands}
 use Rattle.calls.proofs.request.first_of_four.Goals as goal
 

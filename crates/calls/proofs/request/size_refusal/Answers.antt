@@ -1,5 +1,4 @@
 -- `calls::request::size_refusal` meets its contract: each kind of call has its check.
-use borrow.Author.Rules.{rules}
 use borrow.Author.Tests.{lt-ltb, le-ltb, le-leb, lt-leb}
 use Rattle.calls.proofs.request.size_refusal.Goals as goal
 

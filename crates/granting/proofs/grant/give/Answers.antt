@@ -1,7 +1,6 @@
 -- `granting::grant::give` meets its contract: the table is changed as without a line, and a block given passes everybody in line.
 use mathlib.Core.Path.{◌≡◌, refl, sym, ap, ◌∙◌}
 use native.Mathlib.Omega.{arith}
-use borrow.Author.Rules.{rules}
 use Rattle.table.specs.Table.{node_at}
 use Rattle.line.specs.Line.{line_of, waiting_in, waiting_count}
 use Rattle.line.specs.Changes.{InForm}

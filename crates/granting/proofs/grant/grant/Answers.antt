@@ -1,9 +1,7 @@
 -- `granting::grant::grant` meets its contract: what the line refuses, and else what the table does.
-use borrow.Author.Rules.{rules}
 use mathlib.Core.Path.{◌≡◌, sym, ap, ◌∙◌}
 use mathlib.Core.Bool.{true}
 use native.Mathlib.Omega.{arith}
-use borrow.Author.Tests.{not-true, not-false}
 use Rattle.line.specs.Order.{line_in_order?}
 use Rattle.rules.specs.Call.{Call, tenant_of}
 use Rattle.rules.specs.Value.{call_of}

@@ -1,6 +1,5 @@
 -- `granting::grant::line_refusal` meets its contract: to one that holds nothing 18 where it waits, and else 10 where somebody was passed as often as
 -- may be.
-use borrow.Author.Rules.{rules}
 use mathlib.Core.Path.{sym, ◌∙◌}
 use borrow.Author.Tests.{eq-eqb, ne_eqb}
 use Rattle.granting.proofs.grant.line_refusal.Goals as goal

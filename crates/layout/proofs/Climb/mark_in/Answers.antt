@@ -1,5 +1,4 @@
 -- `layout::Climb::mark_in` meets its contract: past the last level there is nothing to write, and before it the state has a lone block.
-use mathlib.Core.Path.{◌≡◌, sym}
 use native.Mathlib.Omega.{arith}
 use borrow.Author.Rules.{rules}
 use Rattle.layout.proofs.Climbing.{state_lone, mark_past}

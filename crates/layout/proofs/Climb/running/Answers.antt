@@ -1,6 +1,5 @@
 -- `layout::Climb::running` meets its contract, by its three cases.
 use native.Mathlib.Omega.{arith}
-use borrow.Author.Rules.{rules}
 use Rattle.layout.proofs.Climbing.{state_full, state_lone, running_full}
 use Rattle.layout.proofs.Climb.running.Goals as goal
 

@@ -1,17 +1,9 @@
 -- `layout::Counts::total` meets its contract: at each level the sum and the pages from there on make all of them.
-use mathlib.Core.Path.{◌≡◌, refl}
+use mathlib.Core.Path.{◌≡◌}
 use mathlib.Core.List.{List}
-use Prim.Native.Nat.{ℕ, ◌+◌, ◌-◌, ◌*◌, ◌^◌, ◌≤◌, ◌<◌}
-use native.Mathlib.Nat.{mul-le-mul_right, pow-suc}
-use native.Mathlib.Numerals.{add-one}
-use native.Mathlib.Omega.{arith}
-use borrow.Author.Rules.{rules}
-use lib.ListN.{length, get_or, drop, drop_of_length-le}
-use mir.Syntax.{w16, w32}
-use mir.Val.{Fits}
+use Prim.Native.Nat.{ℕ, ◌+◌, ◌-◌, ◌*◌, ◌^◌, ◌≤◌}
+use lib.ListN.{drop}
 use Rattle.layout.specs.Layout.{pages, pages_from}
-use Rattle.layout.proofs.Bounds.{power_le_4096}
-use Rattle.layout.proofs.Counting.{pages_from_level}
 use Rattle.layout.proofs.Counts.total.Given as goal
 
 -- before level l the sum has the pages of the levels below, each with at most 65,535 blocks

@@ -1,8 +1,4 @@
 -- `plan::Plan::push` meets its contract: the move takes the place of the first entry that holds none.
-use mathlib.Core.Path.{◌≡◌}
-use Prim.Native.Nat.{ℕ}
-use native.Mathlib.Omega.{arith}
-use borrow.Author.Rules.{rules}
 use Rattle.plans.proofs.PlanOf.{pushed_at_end}
 use Rattle.plans.proofs.Plan.push.Goals as goal
 

@@ -1,6 +1,5 @@
 -- `plan::Row::holds` meets its contract.
 use mathlib.Core.Bool.{and-true, and-false}
-use borrow.Author.Rules.{rules}
 use borrow.Author.Tests.{eq-eqb, ne_eqb}
 use Rattle.plans.specs.Plan.{row_holds}
 use Rattle.plans.proofs.Row.holds.Goals as goal

@@ -2,7 +2,6 @@
 use mathlib.Core.Path.{sym, ◌∙◌, ap}
 use Prim.Native.Nat.{ℕ}
 use native.Mathlib.Omega.{arith}
-use borrow.Author.Rules.{rules}
 use Rattle.reserve.proofs.Look.{no_table, no_tenant, entry_of_tenant}
 use Rattle.reserve.proofs.entries.reserve_look.Goals as goal
 

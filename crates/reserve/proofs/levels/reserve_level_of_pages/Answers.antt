@@ -2,7 +2,6 @@
 use mathlib.Core.Path.{sym, ap, ◌∙◌}
 use Prim.Native.Nat.{ℕ, ◌^◌, ◌≤◌, ◌<◌}
 use native.Mathlib.Omega.{arith}
-use borrow.Author.Rules.{rules}
 use Rattle.reserve.proofs.LevelOfPages.{level_above_12, level_of_too_many, level_of_few}
 use Rattle.reserve.proofs.levels.reserve_level_of_pages.Goals as goal
 

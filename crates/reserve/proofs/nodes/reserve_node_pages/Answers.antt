@@ -1,8 +1,7 @@
 -- `reserve::nodes::reserve_node_pages` meets its contract: the cases of the definition, told apart by the node's depth.
 use mathlib.Core.Path.{sym, ◌∙◌}
-use Prim.Native.Nat.{ℕ, ◌≤◌, ◌<◌}
+use Prim.Native.Nat.{◌≤◌, ◌<◌}
 use native.Mathlib.Omega.{arith}
-use borrow.Author.Rules.{rules}
 use Rattle.tree.specs.Node.{depth}
 use Rattle.reserve.proofs.NodePages.{pages_above_12, pages_of_zero, pages_past_tree, past_tree_by_depth}
 use Rattle.reserve.proofs.NodePages.{first_of_level_le, product_fits, pages_by_depth}

@@ -1,6 +1,5 @@
 -- `reserve::page_map::reserve_count` meets its contract.
 use mathlib.Core.Path.{ap}
-use borrow.Author.Rules.{rules}
 use Rattle.reserve.specs.Door.{count_of}
 use Rattle.reserve.proofs.page_map.reserve_count.Goals as goal
 

@@ -1,10 +1,7 @@
 -- `table::passes::any_bits` meets its contract. The loop's invariant: the bits so far and the entries from `i` on tell of all entries.
-use Prim.Native.Nat.{◌-◌, ◌≤◌}
-use borrow.Author.Rules.{rules}
 use native.Mathlib.Numerals.{add-one}
 use native.Mathlib.Omega.{arith}
-use lib.ListN.{length}
-use Rattle.table.proofs.Owners.{BitsBefore, bits_of_none, bits_with_next, bits_of_all}
+use Rattle.table.proofs.Owners.{bits_of_none, bits_with_next, bits_of_all}
 use Rattle.table.proofs.passes.any_bits.Goals as goal
 
 pub loop-i-init : goal.loop-i-init

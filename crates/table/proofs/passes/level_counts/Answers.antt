@@ -3,16 +3,14 @@
 use mathlib.Core.Path.{◌≡◌, ap₂, ◌∙◌}
 use mathlib.Core.List.{List}
 use Prim.Native.Nat.{ℕ, suc, ◌+◌, ◌-◌, ◌*◌, ◌^◌, ◌≤◌, ◌<◌}
-use borrow.Author.Rules.{rules}
 use borrow.Author.Tests.{le-leb, lt-leb}
 use native.Mathlib.Omega.{arith}
 use lib.Dec.{ltb}
 use lib.ListN.{set, take, drop, length-take}
 use lib.Pow.{pow_mono}
-use Rattle.table.specs.Table.{tabulate}
 use Rattle.table.specs.Owners.{used_in, level_count, level_counts, count_up_to}
 use Rattle.table.proofs.Used.{tally_take_le}
-use Rattle.table.proofs.Tabulate.{from, fill_none, fill_more, fill_all}
+use Rattle.table.proofs.Tabulate.{fill_none, fill_more, fill_all}
 use Rattle.table.proofs.passes.level_counts.Goals as goal
 
 no_level_above : (h : ℕ) (o : List ℕ) (l : ℕ) → h < l → count_up_to h o l ≡ 0

@@ -1,12 +1,9 @@
 -- `table::passes::store` meets its contract. The loop's invariant: the entries from `tenant` on, stored over what is stored so far, make the whole.
-use mathlib.Core.Path.{◌≡◌, sym, ◌∙◌}
-use Prim.Native.Nat.{◌-◌, ◌≤◌, ◌<◌}
-use borrow.Author.Rules.{rules}
+use mathlib.Core.Path.{sym, ◌∙◌}
+use Prim.Native.Nat.{◌<◌}
 use native.Mathlib.Omega.{arith}
 use native.Mathlib.Numerals.{add-one}
-use lib.ListN.{length, drop}
 use Rattle.table.specs.Table.{node_at}
-use Rattle.table.specs.Owners.{owners_from}
 use Rattle.table.proofs.Owners.{owners_step, owners_end, node_below}
 use Rattle.table.proofs.passes.store.Goals as goal
 

@@ -1,6 +1,5 @@
 -- `table::passes::used` meets its contract: what is not 0 is used.
 use native.Mathlib.Omega.{arith}
-use borrow.Author.Rules.{rules}
 use Rattle.table.proofs.Used.{used_and_zeros}
 use Rattle.table.proofs.passes.used.Goals as goal
 

@@ -1,13 +1,9 @@
 -- `table::passes::zeros` meets its contract. The loop's invariant: the count so far and the count from `i` on make the whole.
-use mathlib.Core.Path.{◌≡◌}
-use Prim.Native.Nat.{◌+◌, ◌-◌, ◌≤◌}
-use borrow.Author.Rules.{rules}
 use native.Mathlib.Omega.{arith}
 use native.Mathlib.Numerals.{add-one}
 use lib.Dec.{eqb}
-use lib.ListN.{length, get_or, drop}
+use lib.ListN.{get_or}
 use Rattle.tree.proofs.Sum.{one_if_le_one}
-use Rattle.table.specs.Table.{tally}
 use Rattle.table.proofs.Used.{tally_le_length, tally_from, tally_from_end}
 use Rattle.table.proofs.passes.zeros.Goals as goal
 
