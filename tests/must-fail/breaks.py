@@ -72,8 +72,7 @@ def main():
             for mistake, why in reasons:
                 print(f"{path}: {mistake.name}: {why}", flush=True)
 
-    # (a check takes two processors where it can)
-    workers = [threading.Thread(target=work, args=(crates, edits, say)) for _ in range(min(crates.qsize(), max(1, (os.cpu_count() or 1) // 2)))]
+    workers = [threading.Thread(target=work, args=(crates, edits, say)) for _ in range(min(crates.qsize(), os.cpu_count() or 1))]
     for worker in workers:
         worker.start()
     for worker in workers:

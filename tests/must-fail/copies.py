@@ -6,16 +6,14 @@ import subprocess
 
 from mistakes import files_of, log_of
 
-PARTS = ("src", "specs", "proofs")
-
 
 class Copy:
-    """A copy of the crates and what says of what they are made, in a folder that is there."""
+    """A copy of the crates, and of what says how they are made, in a folder that is there and empty."""
 
     def __init__(self, folder):
         self.folder = folder
         subprocess.run(["git", "init", "--quiet", folder], check=True)
-        shutil.copytree("crates", f"{folder}/crates", ignore=shutil.ignore_patterns("out", "target", "must-fail"))
+        shutil.copytree("crates", f"{folder}/crates", ignore=shutil.ignore_patterns("out", "must-fail"))
         for name in filter(os.path.exists, ("crates.txt", "HANDLES")):
             shutil.copy(name, folder)
 
@@ -26,11 +24,19 @@ class Copy:
         try:
             for path, text in (files or {}).items():
                 write(f"{folder}/{path}", text)
-            ran = subprocess.run(["rt", "check"], cwd=folder, stdin=subprocess.DEVNULL, stdout=subprocess.PIPE, stderr=subprocess.STDOUT, errors="replace", check=False)
+            ran = run(folder)
+            if "\nlogic=" not in ran.stdout:
+                # (it may have been killed for memory)
+                ran = run(folder)
         finally:
             for path in files or {}:
                 write(f"{folder}/{path}", was[path])
         return log_of(ran.stdout), ran.returncode == 0
+
+
+def run(folder):
+    how = {"stdin": subprocess.DEVNULL, "stdout": subprocess.PIPE, "stderr": subprocess.STDOUT, "errors": "replace"}
+    return subprocess.run(["rt", "check", "--jobs", "1"], cwd=folder, check=False, **how)
 
 
 def write(path, text):

@@ -20,9 +20,13 @@ import re
 FALLOUT = re.compile(r"was not admitted|was rejected|were not admitted|were rejected")
 MISFIT = re.compile(r"has no field|that can be named from here|this is applied to an argument|is not in scope(?! here, so what is shown)")
 
+# The files of a function's proof.
+OF_FUNCTIONS = ("Answers.antt", "Invariants.antt", "Proof.antt")
+
 ERROR = re.compile(r"(\S+?):\d+:\d+: error: (?:`([^`]*)`: )?(.*)")
-# A goal that the prover has looked for and not proved, told before the line of the function whose goal it is.
+# A goal for which the prover has looked and found no proof, told before the line of the function whose goal it is, and those that this line names.
 OPEN = re.compile(r"note: \S+?:\d+:\d+: it is not proved that .*?\(`([^`]*)`\)(?:;|$)")
+UNFOUND = re.compile(r"`search` did not prove ((?:`[^`]*`(?:, | and )?)+)")
 VERDICT = re.compile(r"(?:fn|struct|enum|impl) (\S+?): (.*)")
 
 
@@ -104,7 +108,7 @@ def made(files, mistakes):
 class Log:
     errors: list  # of (file, declaration, message)
     functions: dict  # what is said of each
-    open: dict  # the goals of each that are looked for and not proved
+    open: dict  # the goals of each for which no proof was found
 
 
 def log_of(text):
@@ -120,8 +124,9 @@ def log_of(text):
         elif goal:
             goals.append(goal[1])
         elif verdict:
+            unfound = UNFOUND.search(verdict[2])
             log.functions[verdict[1]] = verdict[2]
-            log.open[verdict[1]] = goals
+            log.open[verdict[1]] = goals + re.findall(r"`([^`]*)`", unfound[1] if unfound else "")
             goals = []
         elif goes_on and line.startswith("  "):
             log.errors[-1][2] += " " + line.strip()
@@ -130,10 +135,10 @@ def log_of(text):
 
 
 def is_proof_of(path, function):
-    """Whether a file is of a function's proof: proofs/PATH/NAME/FILE.antt, with +NAME for functions that call themselves or one another."""
+    """Whether a file is one of a function's proof: proofs/PATH/NAME/FILE.antt, with +NAME for functions that call themselves or one another."""
     _, *modules, name = function.split("::")
     head, *folders, last = path.split("/")
-    if head != "proofs" or last not in ("Answers.antt", "Invariants.antt", "Proof.antt") or not folders or folders[:-1] != modules:
+    if head != "proofs" or last not in OF_FUNCTIONS or not folders or folders[:-1] != modules:
         return False
     return folders[-1] == name or (folders[-1].startswith("+") and name in folders[-1].split("+"))
 
@@ -151,7 +156,7 @@ def objection(what, log):
             return ""
         messages = [message for declaration, message in errors if goal in ("", declaration)]
     else:
-        messages = [message for _, declaration, message in log.errors if declaration == what]
+        messages = [message for file, declaration, message in log.errors if declaration == what and os.path.basename(file) not in OF_FUNCTIONS]
     own = [message for message in messages if not FALLOUT.search(message)]
     if not messages:
         said = log.functions.get(what.removeprefix("fn ").partition(" at ")[0], "")
