@@ -1,4 +1,4 @@
-//! Links the archives of the planner and of the former count, which `rt staticlib` has put below the repository's
+//! Links the archives of the planner and of the former count, which `tools/build` has put below the repository's
 //! `target`.
 
 use std::env;

@@ -1,18 +1,15 @@
 # shellcheck shell=bash
 # What bench/run and tests/speed/run have in common; both are at the repository's root when they read this.
-archives=target/staticlib
-archive=$archives/libreserve.a
+archive=target/staticlib/libreserve.a
 out=target/bench
 program=$out/release/bench
 export CARGO_TARGET_DIR=$PWD/$out
 
-# the archives of the library and of the former count, unless they are newer than everything that they are made from
+# the archives of the library and of the former count
 build_archives() {
   local name
   for name in reserve bytewise; do
-    if [ ! -f "$archives/lib$name.a" ] || [ -n "$(find crates crates.txt -newer "$archives/lib$name.a" -print -quit)" ]; then
-      rt staticlib "$name" >"$out/archive.log" 2>&1 || { cat "$out/archive.log" && return 1; }
-    fi
+    tools/build "$name" >"$out/archive.log" 2>&1 || { cat "$out/archive.log" && return 1; }
   done
 }
 

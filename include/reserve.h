@@ -104,7 +104,7 @@
  *
  * THE ARCHIVE
  *
- * `rt staticlib reserve` writes target/staticlib/libreserve.a, and a program is linked with `cc program.c libreserve.a`. It
+ * `make archive` writes target/staticlib/libreserve.a, and a program is linked with `cc program.c libreserve.a`. It
  * is for x86-64 Linux: ELF, the System V calling convention, the instructions that every x86-64 processor has. It is
  * position independent, so that shared objects can have it too. It takes memcpy and memset from the C library, or from
  * whatever else it is linked with; all names that it defines begin with reserve_.

@@ -1,6 +1,7 @@
 """What the tests of the programs share: journals, how a program is run, and how checks are counted."""
 
 import contextlib
+import errno
 import fcntl
 import os
 import pathlib
@@ -16,6 +17,9 @@ import traceback
 
 PATIENCE = 60  # seconds after which a program that does not end is stopped, and its check fails
 MOST_INTERRUPTIONS = 1000  # of the reads of a journal, or of the writes of a block, that a program puts up with
+
+NO_TEXT = os.fsdecode(b"a journal of \xe9t\xe9")  # a name in Latin-1
+NO_TEXT_REASON = "Invalid or incomplete multibyte or wide character"
 
 # What the refusals that end a listing mean.
 REASONS = {
@@ -176,11 +180,11 @@ def check(name):
             traceback.print_exc(file=sys.stdout)
 
 
-def ends_with(program, out, error, status=0):
+def ends_with(program, out, error):
     got_out, got_error = end(program)
     equal("standard error", got_error, error)
     equal("standard output", got_out or b"", out)
-    assert program.returncode == status, f"the exit status is {program.returncode} and should be {status}"
+    assert program.returncode == 0, f"the exit status is {program.returncode} and should be 0"
 
 
 def conclude():
@@ -200,6 +204,9 @@ def check_no_reading(program, folder):
         ends_with(program.start(""), b"", program.cannot("read", "", "No such file or directory"))
     with check("a name that is too long"):
         ends_with(program.start("x" * 5000), b"", program.cannot("read", "x" * 4096, "File name too long"))
+    with check("a name that is no text in UTF-8, of a file that is there"):
+        (folder / NO_TEXT).write_bytes(b"")
+        ends_with(program.start(NO_TEXT, cwd=folder), b"", program.cannot("read", NO_TEXT, NO_TEXT_REASON))
     with check("a folder"):
         ends_with(program.start(str(folder)), b"", program.cannot("read", folder, "Is a directory"))
     with check("a folder on standard input"):
@@ -262,24 +269,30 @@ def check_no_writing(program, source, wanted, fails, sizes):
         ends_with(program.start("--help", stdout=full), b"", cannot("No space left on device"))
     with check("standard output closed"):
         ends_with(program.start(str(source), preexec_fn=lambda: os.close(1)), b"", cannot("Bad file descriptor"))
-    with check("a failure that is told when standard output is closed"):
-        running = program.start(str(source), env={"LD_PRELOAD": fails, "FAILS": "close"})
-        ends_with(running, wanted, cannot("Disk quota exceeded"))
+    for name, number, error in (
+        ("that it is not stored", errno.EIO, cannot("Input/output error")),
+        ("that there is no space for it", errno.ENOSPC, cannot("No space left on device")),
+        ("that the quota is used up", errno.EDQUOT, cannot("Disk quota exceeded")),
+        ("something else", errno.EINVAL, b""),
+    ):
+        with check(f"a file of which is told at last {name}"), path.open("w+b") as out:
+            ends_with(program.start(str(source), stdout=out, **failing("fsync", fails, number)), b"", error)
+            equal("the file", path.read_bytes(), wanted)
+    for call in "fsync", "close":
+        with check(f"a failing {call}, which nobody calls on a pipe"):
+            ends_with(program.start(str(source), **failing(call, fails)), wanted, b"")
 
 
 def check_leaving_reader(program, source, wanted, amount):
     """Reads so many bytes of what the program writes, and no more. The pipe is small, so that the program waits for it."""
     broken = program.cannot("write", "standard output", "Broken pipe")
-    for name, restored, error, status in (
-        ("a reader that leaves, with SIGPIPE ignored", False, broken, 0),
-        ("a reader that leaves, which ends the program", True, b"", -signal.SIGPIPE),
-    ):
+    for name, restored in ("a reader that leaves, with SIGPIPE ignored", False), ("a reader that leaves, with SIGPIPE as usual", True):
         with check(name):
             running = program.start(str(source), restore_signals=restored, pipesize=4096)
             equal("what was read", running.stdout.read(amount), wanted[:amount])
             running.stdout.close()
             running.stdout = None
-            ends_with(running, b"", error, status)
+            ends_with(running, b"", broken)
 
 
 def check_interrupted_writing(program, source, wanted, middle):
@@ -300,8 +313,13 @@ def check_interrupted_writing(program, source, wanted, middle):
         ends_with(running, b"", b"")
 
 
+def failing(call, fails, number=None):
+    """The call fails, with the error of that number; `fails` is the library fails.c."""
+    return {"env": {"LD_PRELOAD": fails, "FAILS": call, **({"ERROR": str(number)} if number else {})}}
+
+
 def interrupted(call, fails, times):
-    """The first reads or writes are interrupted so many times; `fails` is the library fails.c."""
+    """The first calls, which read, write or sync, are interrupted so many times; `fails` is the library fails.c."""
     return {"env": {"LD_PRELOAD": fails, "FAILS": call, "INTERRUPTIONS": str(times)}}
 
 

@@ -6,6 +6,7 @@ its own, in which nothing else may be made, changed or removed. A check that fai
 """
 
 import enum
+import errno
 import os
 import pathlib
 import random
@@ -15,8 +16,8 @@ import subprocess
 import sys
 import tempfile
 
-from programs import MOST_INTERRUPTIONS, Program, admit, check, check_streams, conclude, ends_with, feed, grant, grant_pages, growth, interrupted
-from programs import join, limited, release, sockets, why, withdrawal
+from programs import MOST_INTERRUPTIONS, NO_TEXT, NO_TEXT_REASON, Program, admit, check, check_streams, conclude, ends_with, failing, feed, grant
+from programs import grant_pages, growth, interrupted, join, limited, release, sockets, why, withdrawal
 
 CONVERT_PAGES, ORACLE, FAILS, EXAMPLES = (os.path.abspath(path) for path in sys.argv[1:])
 PROGRAM = Program(CONVERT_PAGES, b"usage: convert_pages [OLD [NEW]]\nconvert_pages --help says more.\n")
@@ -263,6 +264,8 @@ def check_no_file():
         ("a file in a missing folder", "missing/new", {}, "missing/new.part", "No such file or directory"),
         ("a file in what is no folder", "old/new", {}, "old/new.part", "Not a directory"),
         ("a name that is too long", "n" * 251, {}, "n" * 251 + ".part", "File name too long"),
+        ("a name that is no text in UTF-8", NO_TEXT, {}, NO_TEXT + ".part", NO_TEXT_REASON),
+        ("a name that is no text in UTF-8, of a file that is there", NO_TEXT, {NO_TEXT: NEW}, NO_TEXT + ".part", NO_TEXT_REASON),
     ):
         check_unchanged(f"{name} as new file", ("old", new), {**old, **files}, cannot_write(thing, reason))
 
@@ -348,13 +351,13 @@ def check_failing_calls():
             check_unchanged(f"files that end at {size} bytes, {beside}", ("old", "new"), files, error, **limited(size))
         whole = {"old": journal, "new": converted}
         check_files(f"files that end where the conversion does, {beside}", ("old", "new"), files, whole, **limited(len(converted)))
-        for call, thing, reason in (
-            ("fsync", "new.part", "Input/output error"),
-            ("close", "new.part", "Disk quota exceeded"),
-            ("rename", "new", "Read-only file system"),
-        ):
-            env = {"LD_PRELOAD": FAILS, "FAILS": call}
-            check_unchanged(f"a failing {call}, {beside}", ("old", "new"), files, cannot_write(thing, reason), env=env)
+        for call, thing, reason in ("fsync", "new.part", "Input/output error"), ("rename", "new", "Read-only file system"):
+            check_unchanged(f"a failing {call}, {beside}", ("old", "new"), files, cannot_write(thing, reason), **failing(call, FAILS))
+        error = cannot_write("new.part", "Disk quota exceeded")
+        check_unchanged(f"a quota that is used up, {beside}", ("old", "new"), files, error, **failing("fsync", FAILS, errno.EDQUOT))
+        # all is on the disk by then
+        check_files(f"a failing close, {beside}", ("old", "new"), files, whole, **failing("close", FAILS))
+        check_files(f"an fsync that is interrupted, {beside}", ("old", "new"), files, whole, **interrupted("fsync", FAILS, 10))
         for call, thing in ("read", "old"), ("write", "new.part"):
             most, more = (interrupted(call, FAILS, times) for times in (MOST_INTERRUPTIONS, MOST_INTERRUPTIONS + 1))
             check_files(f"a {call} that is interrupted often, {beside}", ("old", "new"), files, whole, **most)
@@ -362,7 +365,7 @@ def check_failing_calls():
             check_unchanged(f"a {call} that is interrupted once more, {beside}", ("old", "new"), files, error, **more)
         check_files(f"no failing call, {beside}", ("old", "new"), files, whole, env={"LD_PRELOAD": FAILS})
     error = cannot_write("old", "Read-only file system")
-    check_unchanged("a failing rename onto itself", ("old", "old"), {"old": OLD}, error, env={"LD_PRELOAD": FAILS, "FAILS": "rename"})
+    check_unchanged("a failing rename onto itself", ("old", "old"), {"old": OLD}, error, **failing("rename", FAILS))
 
 
 def check_arguments():

@@ -87,9 +87,9 @@ def source_declarations(text):
     text = re.sub(r"//.*", "", text)
     structs = {
         "struct " + name.lower(): [part for one in split_list(body) for part in rattle_named(one.removeprefix("pub "))]
-        for name, body in re.findall(r"#\[repr\(C\)\]\s*pub struct (\w+) \{(.*?)\}", text, flags=re.S)
+        for name, body in re.findall(r"#\[repr\(C\)\]\s*(?:#\[derive\([\w, ]+\)\]\s*)?pub struct (\w+) \{(.*?)\}", text, flags=re.S)
     }
-    exported = re.findall(r'#\[no_mangle\]\s*pub extern "C" fn (\w+)\((.*?)\) -> (\w+)', text, flags=re.S)
+    exported = re.findall(r'#\[unsafe\(no_mangle\)\]\s*pub extern "C" fn (\w+)\((.*?)\) -> (\w+)', text, flags=re.S)
     functions = {
         name: [rattle_type(result)] + [part for one in split_list(parameters) for part in rattle_named(one)]
         for name, parameters, result in exported
@@ -121,7 +121,7 @@ def refusals():
 
 
 def kinds():
-    named = re.findall(r"^kindByte Kind\.(\w+) = (\d+)$", text_of("crates/journal/specs/Format.antt"), flags=re.M)
+    named = re.findall(r"^kind_byte Kind\.(\w+) = (\d+)$", text_of("crates/journal/specs/Format.antt"), flags=re.M)
     capitals = lambda name: re.sub(r"(?<=[a-z])(?=[A-Z])", "_", name).upper()
     return {"RESERVE_KIND_" + capitals(name): int(value) for name, value in named}
 
@@ -131,26 +131,26 @@ def sizes():
     step = "crates/rules/specs/Step.antt"
     with_line = "crates/admission/specs/Step.antt"
     door = "crates/reserve/specs/Door.antt"
-    move = number(door, r"^entriesIn \w+ = length \w+ / (\d+)$")
-    entries = lambda kinds: number("crates/rules/specs/Call.antt", rf"^leastEntries \((?:{kinds}) .*\) = (\d+)$")
-    direct, admit = entries("grant-level|grant-pages|release"), number(with_line, r"check 3 \(ltb m (\d+)\)")
+    move = number(door, r"^entries_in \w+ = length \w+ / (\d+)$")
+    entries = lambda kinds: number("crates/rules/specs/Call.antt", rf"^least_entries \((?:{kinds}) .*\) = (\d+)$")
+    direct, admit = entries("grant_level|grant_pages|release"), number(with_line, r"check 3 \(ltb m (\d+)\)")
     if direct != admit:
         sys.exit(f"a grant or a release needs {direct} entries, and an admit {admit}")
     return {
         "RESERVE_DONE": number(step, r"^first \[\] = (\d+)$"),
-        "RESERVE_KIND_NONE": number("crates/reserve/specs/Records.antt", r"^readingOf at Read\.End = .*kind = (\d+);"),
+        "RESERVE_KIND_NONE": number("crates/reserve/specs/Records.antt", r"^reading_of at Read\.End = .*kind = (\d+);"),
         "RESERVE_MAX_HEIGHT": number(step, r"check 1 \(ltb (\d+) h\)"),
         "RESERVE_TENANTS": number(step, r"check 4 \(ltb (\d+) t\)") + 1,
         "RESERVE_LINE_PLACES": number(with_line, r"check 17 \(leb (\d+) "),
-        "RESERVE_MOST_PASSES": number("crates/line/specs/Order.antt", r"leb \(w \.passed\) (\d+)"),
+        "RESERVE_MOST_PASSES": number("crates/line/specs/Order.antt", r"leb w\.passed (\d+)"),
         "RESERVE_NOBODY": number(door, r"^\S+ none = (\d+)$"),
-        "RESERVE_TABLE_BYTES": 2 * number("crates/image/specs/Image.antt", r"tableOf image = lentAs (\d+) image"),
-        "RESERVE_LINE_BYTES": 2 * number(with_line, r"eqb \(length \(S \.line\)\) (\d+)"),
+        "RESERVE_TABLE_BYTES": 2 * number("crates/image/specs/Image.antt", r"table_of image = lent_as (\d+) image"),
+        "RESERVE_LINE_BYTES": 2 * number(with_line, r"check 2 \(not \(eqb k (\d+)\)\)"),
         "RESERVE_MOVE_BYTES": move,
         "RESERVE_MOVES_BYTES": direct * move,
         "RESERVE_GROW_MOVES_BYTES": entries("grow") * move,
         "RESERVE_MAP_BYTES": number("crates/pagemap/specs/Draw.antt", r"check 15 \(ltb \(length m\) (\d+)\)"),
-        "RESERVE_RECORD_BYTES": 1 + max(numbers("crates/journal/specs/Format.antt", r"^bodyLength Kind\.\w+ = (\d+)$")),
+        "RESERVE_RECORD_BYTES": 1 + max(numbers("crates/journal/specs/Format.antt", r"^body_length Kind\.\w+ = (\d+)$")),
         "RESERVE_JOURNAL_BYTES": number("crates/journal/specs/Reader.antt", r"ltb (\d+) \(length journal\)"),
     }
 
@@ -187,7 +187,7 @@ def versions():
 def main():
     header = re.sub(r"/\*.*?\*/", "", text_of(HEADER), flags=re.S)
     exported = {}
-    for path in sorted(glob.glob("crates/reserve/src/*.rt")):
+    for path in sorted(glob.glob("crates/reserve/src/*.rt") + glob.glob("crates/reserve_c/src/*.rt")):
         exported.update(source_declarations(text_of(path)))
     declared = {**header_declarations(header), **header_constants(header), "versions": versions_told(), "version": version_of_header()}
     written = {**exported, **refusals(), **kinds(), **sizes(), "versions": versions(), "version": version_of_manual()}

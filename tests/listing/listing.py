@@ -6,6 +6,7 @@ says whom an admit grants. A check that fails prints its name and the first diff
 """
 
 import concurrent.futures
+import errno
 import os
 import pathlib
 import random
@@ -14,8 +15,8 @@ import subprocess
 import sys
 import tempfile
 
-from programs import REASONS, Program, admit, check, check_streams, conclude, ends_with, equal, grant, grant_pages, growth, join, release, why
-from programs import withdrawal
+from programs import REASONS, Program, admit, check, check_streams, conclude, ends_with, equal, failing, grant, grant_pages, growth, join, release
+from programs import why, withdrawal
 
 LISTING, ORACLE, FAILS, EXAMPLES = (os.path.abspath(path) for path in sys.argv[1:])
 PROGRAM = Program(LISTING, b"usage: listing [FILE]\nlisting --help says more.\n")
@@ -466,9 +467,13 @@ def check_explained():
     listing = pathlib.Path(path).with_suffix(".listing").read_bytes()
     with check("a refusal, from a device that is full"), open("/dev/full", "wb") as full:
         ends_with(PROGRAM.start(path, stdout=full), b"", PROGRAM.cannot("write", "standard output", "No space left on device"))
-    with check("a refusal, and a failure that is told when standard output is closed"):
-        running = PROGRAM.start(path, env={"LD_PRELOAD": FAILS, "FAILS": "close"})
-        ends_with(running, listing, PROGRAM.cannot("write", "standard output", "Disk quota exceeded"))
+    with check("a refusal, and a failure that is told at last of a file"), tempfile.TemporaryFile() as out:
+        running = PROGRAM.start(path, stdout=out, **failing("fsync", FAILS, errno.EDQUOT))
+        ends_with(running, b"", PROGRAM.cannot("write", "standard output", "Disk quota exceeded"))
+        out.seek(0)
+        equal("the file", out.read(), listing)
+    with check("a refusal, with a failing close"):
+        ends_with(PROGRAM.start(path, **failing("close", FAILS)), listing, explanation(listing, path))
 
 
 def check_arguments(folder):

@@ -1,4 +1,4 @@
-//! Links the planner's archive, which `rt staticlib reserve` has put below the repository's `target`.
+//! Links the planner's archive, which `tools/build reserve` has put below the repository's `target`.
 
 use std::env;
 use std::path::Path;

@@ -1,4 +1,4 @@
-//! The listing program, which `rt check listing` has put below the repository's `target`.
+//! The listing program, which `tools/build listing` has put below the repository's `target`.
 
 use std::path::Path;
 
