@@ -18,7 +18,8 @@ import re
 
 # An error that only says that something else was refused, and one by which a proof has another form than the code, so that no fact was asked for.
 FALLOUT = re.compile(r"was not admitted|was rejected|were not admitted|were rejected")
-MISFIT = re.compile(r"has no field|that can be named from here|this is applied to an argument|is not in scope(?! here, so what is shown)")
+MISFIT = re.compile(
+    r"has no field|that can be named from here|expected type `goal\.|this is applied to an argument|is not in scope(?! here, so what is shown)")
 
 # The files of a function's proof.
 OF_FUNCTIONS = ("Answers.antt", "Invariants.antt", "Proof.antt")

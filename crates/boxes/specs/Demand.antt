@@ -15,7 +15,7 @@
 --       `growths_leave_line`, `admit_moves`
 --
 -- `SafeToRepeat`, at the end, says of lists of calls that starts may be repeated (L6); it holds on every table and line. So does demand 2, in
--- steps/specs/Demand.antt. That nobody who waits is passed more than eight times is said a second time in Passed.antt, over the calls alone.
+-- admission/specs/Demand.antt. That nobody who waits is passed more than eight times is said a second time in Passed.antt, over the calls alone.
 use Rattle.std.specs.Prelude.{◌≡◌, Bool, true, false, cond, List, [], ◌∷◌, ◌⊎◌, ◌↔◌, ℕ, zero, suc, ◌+◌, ◌^◌, ◌≤◌, ◌<◌, length}
 use Rattle.std.proofs.Math.Option.{some, none}
 use Rattle.tree.specs.Held.{Nodes, Within, Legal, Safe, sizes}

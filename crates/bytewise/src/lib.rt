@@ -9,8 +9,7 @@ use pagemap::{Counted, MAP_BYTES};
 use refusal::TOO_SHORT;
 
 // The number of set bits in the first 512 bytes; 15 for a shorter map.
-#[unsafe(no_mangle)]
-pub extern "C" fn bytewise_count(map: &[u8]) -> Counted
+pub fn bytewise_count(map: &[u8]) -> Counted
     ensures { result ≡ counted map.now }
 {
     if MAP_BYTES <= map.len() {
