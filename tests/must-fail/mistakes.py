@@ -135,11 +135,17 @@ def log_of(text):
     return log
 
 
-def is_proof_of(path, function):
-    """Whether a file is one of a function's proof: proofs/PATH/NAME/FILE.antt, with +NAME for functions that call themselves or one another."""
-    _, *modules, name = function.split("::")
+def is_of_function(path):
+    """Whether a file is one of a function's proof: a crate may have lemmas in proofs/Answers.antt too."""
     head, *folders, last = path.split("/")
-    if head != "proofs" or last not in OF_FUNCTIONS or not folders or folders[:-1] != modules:
+    return head == "proofs" and last in OF_FUNCTIONS and bool(folders)
+
+
+def is_proof_of(path, function):
+    """Whether a file is one of this function's: proofs/PATH/NAME/FILE.antt, with +NAME for functions that call themselves or one another."""
+    _, *modules, name = function.split("::")
+    _, *folders, _ = path.split("/")
+    if not is_of_function(path) or folders[:-1] != modules:
         return False
     return folders[-1] == name or (folders[-1].startswith("+") and name in folders[-1].split("+"))
 
@@ -157,7 +163,7 @@ def objection(what, log):
             return ""
         messages = [message for declaration, message in errors if goal in ("", declaration)]
     else:
-        messages = [message for file, declaration, message in log.errors if declaration == what and os.path.basename(file) not in OF_FUNCTIONS]
+        messages = [message for file, declaration, message in log.errors if declaration == what and not is_of_function(file)]
     own = [message for message in messages if not FALLOUT.search(message)]
     if not messages:
         said = log.functions.get(what.removeprefix("fn ").partition(" at ")[0], "")
