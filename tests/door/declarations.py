@@ -115,14 +115,17 @@ def number(path, pattern):
     return found.pop()
 
 
+def capitals(name):
+    return re.sub(r"(?<=[a-z])(?=[A-Z])", "_", name).upper()
+
+
 def refusals():
-    constants = re.findall(r"^pub const (\w+): u16 = (\d+);$", text_of("crates/refusal/src/lib.rt"), flags=re.M)
-    return {"RESERVE_REFUSED_" + name: int(value) for name, value in constants}
+    named = re.findall(r"^    (\w+) = (\d+),$", text_of("crates/refusal/src/lib.rt"), flags=re.M)
+    return {"RESERVE_REFUSED_" + capitals(name): int(value) for name, value in named}
 
 
 def kinds():
     named = re.findall(r"^kind_byte Kind\.(\w+) = (\d+)$", text_of("crates/journal/specs/Format.antt"), flags=re.M)
-    capitals = lambda name: re.sub(r"(?<=[a-z])(?=[A-Z])", "_", name).upper()
     return {"RESERVE_KIND_" + capitals(name): int(value) for name, value in named}
 
 
@@ -138,7 +141,7 @@ def sizes():
         sys.exit(f"a grant or a release needs {direct} entries, and an admit {admit}")
     return {
         "RESERVE_DONE": number(step, r"^first \[\] = (\d+)$"),
-        "RESERVE_KIND_NONE": number("crates/reserve/specs/Records.antt", r"^reading_of at Read\.End = .*kind = (\d+);"),
+        "RESERVE_KIND_NONE": number("crates/reserve/specs/Records.antt", r"^reading_of at \(Ok None\) = .*kind = (\d+);"),
         "RESERVE_MAX_HEIGHT": number(step, r"check 1 \(ltb (\d+) h\)"),
         "RESERVE_TENANTS": number(step, r"check 4 \(ltb (\d+) t\)") + 1,
         "RESERVE_LINE_PLACES": number(with_line, r"check 17 \(leb (\d+) "),

@@ -1,8 +1,8 @@
 -- What a call's arguments alone decide, and what they leave to the table and the line.
 use mathlib.Core.Path.{◌≡◌, sym, ◌∙◌}
-use mathlib.Core.Bool.{Bool, true, false, not, cond, ◌&&◌, and-false}
+use mathlib.Core.Bool.{Bool, true, false, not, ◌&&◌, and-false}
 use mathlib.Core.List.{List, [], ◌∷◌, ◌++◌}
-use Prim.Native.Nat.{ℕ, ◌≤◌, ◌<◌}
+use Prim.Native.Nat.{ℕ, ◌≤◌}
 use native.Mathlib.Omega.{arith}
 use borrow.Author.Tests.{ltb-false, le-ltb, eqb-true, eq-eqb, not-false}
 use lib.Dec.{eqb, ltb}
@@ -17,17 +17,6 @@ use Rattle.admission.specs.Step.{lent_checks, order_check}
 -- a number found among xs is the first of all
 pub found_first : (xs ys : List Check) (k : ℕ) → k ≡ first xs → ¬ (k ≡ 0) → k ≡ first (xs ++ ys)
 found_first xs ys k asked found = asked ∙ sym (first_stands xs ys (λ z. found (asked ∙ z)))
-
--- none is found among xs, and one check follows
-module _ (xs : List Check) (k : ℕ) (asked : k ≡ first xs) (numbered : Numbered xs) (none : k ≡ 0) (n : ℕ) (b : Bool) where
-  last_decides : first (xs ++ check n b ∷ []) ≡ cond b n 0
-  last_decides = first_after_none xs (check n b ∷ []) numbered (sym asked ∙ none)
-
-  pub last_applies : b ≡ true → n ≡ first (xs ++ check n b ∷ [])
-  last_applies e = rw (last_decides, e)
-
-  pub none_applies : b ≡ false → 0 ≡ first (xs ++ check n b ∷ [])
-  none_applies e = rw (last_decides, e)
 
 pub lent_numbered : (h n m : ℕ) → Numbered (lent_checks h n m)
 lent_numbered h n m = (omega arith, (omega arith, (omega arith, tt)))
@@ -86,9 +75,3 @@ module _ (h : ℕ) (S : State) (xs rest : List Check) (numbered : Numbered xs) w
 
     pub rest_passed : first rest ≡ 0
     rest_passed = rest_zero 7 (not (ordered h S)) rest (omega arith) both.1
-
--- a tenant's number that has passed 4
-pub tenant_passed : (h n m t : ℕ) (ys : List Check) → first (lent_checks h n m ++ check 4 (ltb 4095 t) ∷ ys) ≡ 0 → t < 4096
-tenant_passed h n m t ys e =
-    let later = (both_zero (lent_checks h n m) (check 4 (ltb 4095 t) ∷ ys) (lent_numbered h n m) e).1 in
-    omega (arith, ltb-false 4095 t (not_applied 4 (ltb 4095 t) ys (omega arith) later))

@@ -20,9 +20,9 @@ AllShort [] = Unit {0}
 AllShort (e ∷ es) = ShortRows e.height e.nodes e.waiting e.rows × AllShort es
 
 all_short : AllShort examples
-unfolding AllShort ShortRows repeats level_for least_level in_order? counts_of all_below occupied layout pages depth newcomer leavers places shifts moved
-    moves_of moves_in_order worked by_tenant waiting_of meet? chosen_of better_of cheaper_of apart? free_of works? cost_of order_of next_of line_of triples
-    line_in_order? barred leave choose
+unfolding AllShort ShortRows repeats level_for least_level in_order? counts_of all_below occupied layout pages depth newcomer leavers places shifts
+    moved moves_of moves_in_order worked by_tenant waiting_of meet? chosen_of better_of cheaper_of apart? free_of works? cost_of order_of next_of
+    line_of triples line_in_order? barred leave choose
 all_short = (
   (refl, (refl, (refl, (refl, (refl, (refl, (refl, (refl, tt)))))))),
   (

@@ -1,6 +1,6 @@
 -- What a join and a withdrawal ask of the table and the line, and what they know of them where none of their checks applies.
 use mathlib.Core.Path.{◌≡◌, sym, ap, ◌∙◌}
-use mathlib.Core.Bool.{true, not}
+use mathlib.Core.Bool.{true, false, not, cond}
 use mathlib.Core.List.{List, [], ◌∷◌, ◌++◌}
 use Prim.Native.Nat.{ℕ, ◌<◌}
 use native.Mathlib.Omega.{arith}
@@ -19,7 +19,7 @@ use Rattle.rules.specs.Step.{Check, check, first, level_check}
 use Rattle.rules.proofs.Checks.{Numbered, not_applied, rest_zero}
 use Rattle.admission.specs.Call.{State, join, withdraw}
 use Rattle.admission.specs.Step.{reserve_checks, checks}
-use Rattle.admission.proofs.Arguments.{Lengths, lengths_passed, tenant_passed, ordered, arguments_passed, order_passed, rest_passed}
+use Rattle.admission.proofs.Arguments.{Lengths, lengths_passed, ordered, rest_decides, arguments_passed, order_passed, rest_passed}
 
 -- the line of a state that has passed 2 and 7
 pub line_ordered : (h : ℕ) (S : State) → length S.line ≡ 193 → ordered h S ≡ true → LineInOrder h S.table S.line
@@ -45,8 +45,12 @@ module _ (h : ℕ) (S : State) (t l : ℕ) (none : first (join_arguments h S t l
   pub join_lengths : Lengths h (length S.table) (length S.line)
   join_lengths = lengths_passed h (length S.table) (length S.line) (check 4 (ltb 4095 t) ∷ level_check h l ∷ []) none
 
-  pub join_tenant : t < 4096
-  join_tenant = tenant_passed h (length S.table) (length S.line) t (level_check h l ∷ []) none
+  -- to one that holds nothing and does not wait, only a full line is a refusal
+  pub join_by_count : ordered h S ≡ true → node_at S.table t ≡ 0 → waits t (waiting_in S.line) ≡ false
+      → first (checks h S (join t l)) ≡ cond (leb 64 (waiting_count S.line)) 17 0
+  join_by_count e holds_none out =
+      rest_decides h S (join_arguments h S t l) (join_holdings S t) (join_numbered h S t l) none e
+      ∙ rw (holds_none, out) (ap (λ (n : ℕ). cond (leb 64 n) 17 0) (length_standing S.line 0 (waiting_count S.line)))
 
 module _ (h : ℕ) (S : State) (t l : ℕ) (none : first (checks h S (join t l)) ≡ 0) where
   pub line_to_join : LineInOrder h S.table S.line

@@ -4,6 +4,8 @@ use mathlib.Core.Bool.{false, not}
 use mathlib.Core.List.{List, [], ◌∷◌, ◌++◌}
 use mathlib.Core.Option.{Option, some, none}
 use Prim.Native.Nat.{ℕ, zero, suc, ◌≤◌}
+use Rattle.std.specs.Prelude.{Result, Ok, Err, None}
+use Rattle.refusal.specs.declared.Refusal.{Refusal}
 use native.Mathlib.Omega.{arith}
 use borrow.Author.Tests.{le-ltb, ltb-false, eqb-true, not-false}
 use lib.Dec.{eqb, ltb}
@@ -18,38 +20,19 @@ use Rattle.rules.specs.Step.{step as table_step}
 use Rattle.rules.specs.Value.{call_of}
 use Rattle.rules.specs.declared.Call.{Call}
 use Rattle.rules.specs.declared.Call.TheVariants.{GrantLevel, GrantPages, Release, Grow}
-use Rattle.rules.specs.declared.Called.{Called}
+use Rattle.rules.specs.declared.Done.{Done}
 use Rattle.rules.proofs.Cases.{both_zero}
 use Rattle.rules.proofs.Checks.{Numbered, validity_numbered, first_after_none, not_applied, rest_zero, height_passed, valid_entries}
 use Rattle.admission.proofs.Demand.{unnamed}
 use Rattle.admission.specs.Call.{State, direct, admit}
-use Rattle.admission.specs.Step.{lent_checks, order_check, grant_holdings, checks, fits, admission, unless, step}
-use Rattle.admission.specs.Value.{requested, least_entries, named_of, Gives, GivesAdmitted}
+use Rattle.admission.specs.Step.{lent_checks, order_check, grant_holdings, checks, fits, admission, Outcome, unless, step}
+use Rattle.admission.specs.Value.{requested, least_entries, Gives, GivesAdmitted}
 use Rattle.admission.specs.Inner.{argument_checks}
 use Rattle.admission.specs.declared.Admitted.{Admitted}
 use Rattle.admission.specs.declared.Request.{Request}
 use Rattle.admission.specs.declared.Request.TheVariants.{Direct, Admit}
-use Rattle.line.specs.declared.Named.TheVariants.{Nobody}
 use Rattle.admission.proofs.Arguments.{found_first, lent_numbered}
 use Rattle.admission.proofs.Answering.{admitted_same}
-
--- ---- the arguments by the kind of call
-
-module _ (h n k m : ℕ) (c : Call) where
-  abbrev by_arguments : List Check
-  by_arguments = argument_checks h n k (Direct c) m
-
-  pub checks_of_level : (t l : ℕ) → c ≡ GrantLevel t l → lent_checks h n k ++ validity h (call_of c m) ≡ by_arguments
-  checks_of_level t l is = rw is
-
-  pub checks_of_pages : (t p : ℕ) → c ≡ GrantPages t p → lent_checks h n k ++ validity h (call_of c m) ≡ by_arguments
-  checks_of_pages t p is = rw is
-
-  pub checks_of_release : (t : ℕ) → c ≡ Release t → length_checks h n ++ validity h (call_of c m) ≡ by_arguments
-  checks_of_release t is = rw is
-
-  pub checks_of_growth : (t l : ℕ) → c ≡ Grow t l → length_checks h n ++ validity h (call_of c m) ≡ by_arguments
-  checks_of_growth t l is = rw is
 
 -- ---- the arguments, and what follows them
 
@@ -161,15 +144,22 @@ module _ (h n k m : ℕ) where
 
 -- ---- what is handed back, by the kind of request
 
-module _ (h : ℕ) (S : State) (q : Request) (m : ℕ) (enough : least_entries q ≤ m) {T' L' : List ℕ} where
-  pub direct_given : (c : Call) {r : Called} → q ≡ Direct c → Gives (step h S (direct (call_of c 7))) r T' L'
-      → GivesAdmitted (step h S (requested q m)) (record { answer = r.answer; named = Nobody; plan = r.plan }) T' L'
-  direct_given c is g = admitted_same (record {
-    answer = g.answer;
-    named = sym (ap named_of (unnamed h S (call_of c 7)));
-    plan = g.plan;
-    state = g.state;
-  }) (ap (λ (r : Request). step h S (requested r 7)) (sym is) ∙ seven_enough h S q m enough)
+-- what a direct call reports, which names nobody
+abbrev pub naming_nobody : Result Done Refusal → Result Admitted Refusal
+naming_nobody (Ok d) = Ok (record { tenant = None; node = d.node; plan = d.plan })
+naming_nobody (Err e) = Err e
 
-  pub admit_given : {r : Admitted} → q ≡ Admit → GivesAdmitted (step h S (admit 7)) r T' L' → GivesAdmitted (step h S (requested q m)) r T' L'
+nobody_named : {o : Outcome} (r : Result Done Refusal) {T L : List ℕ} → o.named ≡ none → Gives o r T L → GivesAdmitted o (naming_nobody r) T L
+nobody_named (Ok d) none_named g = record { answer = g.answer; node = g.node; named = sym none_named; plan = g.plan; state = g.state }
+nobody_named (Err e) none_named g = record { answer = g.answer; node = g.node; named = sym none_named; plan = g.plan; state = g.state }
+
+module _ (h : ℕ) (S : State) (q : Request) (m : ℕ) (enough : least_entries q ≤ m) {T' L' : List ℕ} where
+  pub direct_given : (c : Call) (r : Result Done Refusal) → q ≡ Direct c → Gives (step h S (direct (call_of c 7))) r T' L'
+      → GivesAdmitted (step h S (requested q m)) (naming_nobody r) T' L'
+  direct_given c r is g =
+      admitted_same (nobody_named r (unnamed h S (call_of c 7)) g)
+      (ap (λ (r : Request). step h S (requested r 7)) (sym is) ∙ seven_enough h S q m enough)
+
+  pub admit_given : {r : Result Admitted Refusal} → q ≡ Admit → GivesAdmitted (step h S (admit 7)) r T' L'
+      → GivesAdmitted (step h S (requested q m)) r T' L'
   admit_given is g = admitted_same g (ap (λ (r : Request). step h S (requested r 7)) (sym is) ∙ seven_enough h S q m enough)

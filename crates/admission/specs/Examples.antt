@@ -101,8 +101,9 @@ seven =
     (512 ∷ 513 ∷ 518 ∷ 19 ∷ 258 ∷ 257 ∷ 130 ∷ 131 ∷ 134 ∷ 66 ∷ 34 ∷ 35 ∷ 44 ∷ 18 ∷ 10 ∷ 7 ∷ 6 ∷ []) []
     ∷ [])
 
--- L7: tenants 1 and 2 wait. Growths pass nobody, a direct grant both, and made again nobody. The admit of tenant 2 passes tenant 1, who is in front of
--- it; a withdrawal passes nobody. Tenant 1 withdraws and joins again, behind tenant 4 and not passed yet, so that the admit of tenant 4 passes nobody.
+-- L7: tenants 1 and 2 wait. Growths pass nobody, a direct grant both, and made again nobody. The admit of tenant 2 passes tenant 1, who is in
+-- front of it; a withdrawal passes nobody. Tenant 1 withdraws and joins again, behind tenant 4 and not passed yet, so that the admit of tenant 4
+-- passes nobody.
 abbrev pub passing : Example
 passing =
     from_nodes 2 (0 ∷ 0 ∷ 0 ∷ 0 ∷ 0 ∷ [])

@@ -1,15 +1,11 @@
 -- What the inner functions of a call ask and give.
-use Rattle.std.specs.Prelude.{◌≡◌, List, [], ◌∷◌, ◌++◌, ℕ, ltb}
-use Rattle.plans.specs.Plan.{plan_of}
+use Rattle.std.specs.Prelude.{List, [], ◌∷◌, ◌++◌, ℕ, ltb}
 use Rattle.rules.specs.Step.{Check, check, length_checks, validity}
 use Rattle.rules.specs.Value.{call_of}
-use Rattle.rules.specs.declared.Answer.{Answer}
 use Rattle.rules.specs.declared.Call.TheVariants.{GrantLevel, GrantPages, Release, Grow}
 use Rattle.admission.specs.Step.{lent_checks}
-use Rattle.admission.specs.declared.Admitted.{Admitted}
 use Rattle.admission.specs.declared.Request.{Request}
 use Rattle.admission.specs.declared.Request.TheVariants.{Direct, Admit}
-use Rattle.line.specs.declared.Named.TheVariants.{Nobody}
 
 -- those that the arguments of a request on m entries decide, the lengths of table and line among them; a release and a growth take no line
 abbrev pub argument_checks : ℕ → ℕ → ℕ → Request → ℕ → List Check
@@ -18,9 +14,3 @@ argument_checks h n k (Direct (GrantPages t p)) m = lent_checks h n k ++ validit
 argument_checks h n k (Direct (Release t)) m = length_checks h n ++ validity h (call_of (Release t) m)
 argument_checks h n k (Direct (Grow t l)) m = length_checks h n ++ validity h (call_of (Grow t l) m)
 argument_checks h n k Admit m = lent_checks h n k ++ check 3 (ltb m 4) ∷ []
-
--- an admit with the answer a that grants nobody
-pub record Unnamed (a : Answer) (r : Admitted) : Type 0 where
-  pub answer : r.answer ≡ a
-  pub named : r.named ≡ Nobody
-  pub plan : r.plan ≡ plan_of []

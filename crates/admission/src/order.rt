@@ -14,10 +14,7 @@ pub fn both_in_order(height: u16, table: &[u16], line: &[u16]) -> bool
 {
     let mut owners = [0u16; NODES];
     let found = survey::survey(height, table, &mut owners);
-    if !found.in_order {
-        return false;
-    }
-    line::in_order(height, table, line)
+    found.in_order && line::in_order(height, table, line)
 }
 
 // Whether the tenant is in line.

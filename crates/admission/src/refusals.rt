@@ -1,5 +1,6 @@
 // The refusals that a call's arguments alone decide, the lengths of table and line among them.
 ghost use Rattle.std.specs.Prelude.{◌≡◌, [], ◌∷◌, ◌++◌, ltb};
+ghost use Rattle.refusal.specs.Number.{number_in};
 ghost use Rattle.rules.specs.Step.{check, first, level_check, validity};
 ghost use Rattle.rules.specs.Value.{call_of};
 ghost use Rattle.admission.specs.Step.{lent_checks};
@@ -9,29 +10,32 @@ ghost use Rattle.admission.specs.declared.Request.TheVariants.{Direct};
 use crate::Request;
 use calls::request::{LAST_TENANT, call_refusal};
 use line::NUMBERS;
-use refusal::{LEVEL, MOVES, TABLE_LENGTH, TENANT};
+use refusal::Refusal;
 use rules::Call;
 
 // The fewest move entries that an admit takes, as a grant and a release do.
 pub const LEAST_ENTRIES: usize = 4;
 
-// The number of the first of refusals 1 and 2 that applies to a table and a line of these lengths, or 0.
-pub fn reserve_refusal(height: u16, length: usize, numbers: usize) -> u16
-    ensures { result ≡ first (lent_checks height length numbers) }
+// Refuses with the first of refusals 1 and 2 that applies to a table and a line of these lengths.
+pub fn reserve_refusal(height: u16, length: usize, numbers: usize) -> Result<(), Refusal>
+    ensures { number_in result ≡ first (lent_checks height length numbers) }
 {
-    let number = calls::request::reserve_refusal(height, length);
-    if number != 0 {
-        return number;
-    }
+    calls::request::reserve_refusal(height, length)?;
     if numbers != NUMBERS {
-        return TABLE_LENGTH;
+        return Err(Refusal::TableLength);
     }
-    0
+    Ok(())
 }
 
-// The number of the first of refusals 1 to 6 that applies to a request, or 0.
-pub fn refusal(height: u16, length: usize, numbers: usize, entries: usize, request: Request) -> u16
-    ensures { result ≡ first (argument_checks height length numbers request entries) }
+// Refuses with the first of refusals 1 to 6 that applies to a request.
+pub fn refusal(
+    height: u16,
+    length: usize,
+    numbers: usize,
+    entries: usize,
+    request: Request,
+) -> Result<(), Refusal>
+    ensures { number_in result ≡ first (argument_checks height length numbers request entries) }
 {
     match request {
         Request::Direct { call } => direct_refusal(height, length, numbers, entries, call),
@@ -39,76 +43,78 @@ pub fn refusal(height: u16, length: usize, numbers: usize, entries: usize, reque
     }
 }
 
-// The same of a grant, a release or a growth.
-fn direct_refusal(height: u16, length: usize, numbers: usize, entries: usize, call: Call) -> u16
-    ensures { result ≡ first (argument_checks height length numbers (Direct call) entries) }
+// The same of a grant, which takes a line, and of a release or a growth, which takes none.
+fn direct_refusal(
+    height: u16,
+    length: usize,
+    numbers: usize,
+    entries: usize,
+    call: Call,
+) -> Result<(), Refusal>
+    ensures { number_in result ≡ first (argument_checks height length numbers (Direct call) entries) }
 {
     match call {
-        Call::GrantLevel {
-            tenant: _,
-            level: _,
-        } => grant_refusal(height, length, numbers, entries, call),
-        Call::GrantPages {
-            tenant: _,
-            pages: _,
-        } => grant_refusal(height, length, numbers, entries, call),
-        Call::Release { tenant: _ } => call_refusal(height, length, entries, call),
-        Call::Grow {
-            tenant: _,
-            level: _,
-        } => call_refusal(height, length, entries, call),
+        Call::GrantLevel { .. } | Call::GrantPages { .. } => {
+            grant_refusal(height, length, numbers, entries, call)
+        }
+        Call::Release { .. } | Call::Grow { .. } => call_refusal(height, length, entries, call),
     }
 }
 
-// The same of a grant, which takes a line.
-fn grant_refusal(height: u16, length: usize, numbers: usize, entries: usize, call: Call) -> u16
-    ensures { result ≡ first (lent_checks height length numbers ++ validity height (call_of call entries)) }
+// The same of a grant.
+fn grant_refusal(
+    height: u16,
+    length: usize,
+    numbers: usize,
+    entries: usize,
+    call: Call,
+) -> Result<(), Refusal>
+    ensures { number_in result ≡ first (lent_checks height length numbers ++ validity height (call_of call entries)) }
 {
-    let number = reserve_refusal(height, length, numbers);
-    if number != 0 {
-        return number;
-    }
+    reserve_refusal(height, length, numbers)?;
     call_refusal(height, length, entries, call)
 }
 
-// The number of the first of refusals 1 to 3 that applies to an admit, or 0.
-fn moves_refusal(height: u16, length: usize, numbers: usize, entries: usize) -> u16
-    ensures { result ≡ first (lent_checks height length numbers ++ check 3 (ltb entries 4) ∷ []) }
+// Refuses with the first of refusals 1 to 3 that applies to an admit.
+fn moves_refusal(height: u16, length: usize, numbers: usize, entries: usize) -> Result<(), Refusal>
+    ensures { number_in result ≡ first (lent_checks height length numbers ++ check 3 (ltb entries 4) ∷ []) }
 {
-    let number = reserve_refusal(height, length, numbers);
-    if number != 0 {
-        return number;
-    }
+    reserve_refusal(height, length, numbers)?;
     if entries < LEAST_ENTRIES {
-        return MOVES;
+        return Err(Refusal::Moves);
     }
-    0
+    Ok(())
 }
 
-// The number of the first of refusals 1, 2 and 4 that applies to a withdrawal, or 0.
-pub fn tenant_refusal(height: u16, length: usize, numbers: usize, tenant: u16) -> u16
-    ensures { result ≡ first (lent_checks height length numbers ++ check 4 (ltb 4095 tenant) ∷ []) }
+// Refuses with the first of refusals 1, 2 and 4 that applies to a withdrawal.
+pub fn tenant_refusal(
+    height: u16,
+    length: usize,
+    numbers: usize,
+    tenant: u16,
+) -> Result<(), Refusal>
+    ensures { number_in result ≡ first (lent_checks height length numbers ++ check 4 (ltb 4095 tenant) ∷ []) }
 {
-    let number = reserve_refusal(height, length, numbers);
-    if number != 0 {
-        return number;
-    }
+    reserve_refusal(height, length, numbers)?;
     if LAST_TENANT < tenant {
-        return TENANT;
+        return Err(Refusal::Tenant);
     }
-    0
+    Ok(())
 }
 
-// The number of the first of refusals 1, 2, 4 and 5 that applies to a join, or 0.
-pub fn level_refusal(height: u16, length: usize, numbers: usize, tenant: u16, level: u16) -> u16
-    ensures { result ≡ first (lent_checks height length numbers ++ check 4 (ltb 4095 tenant) ∷ level_check height level ∷ []) }
+// Refuses with the first of refusals 1, 2, 4 and 5 that applies to a join.
+pub fn level_refusal(
+    height: u16,
+    length: usize,
+    numbers: usize,
+    tenant: u16,
+    level: u16,
+) -> Result<(), Refusal>
+    ensures { number_in result ≡ first (lent_checks height length numbers ++ check 4 (ltb 4095 tenant) ∷ level_check height level ∷ []) }
 {
-    let number = tenant_refusal(height, length, numbers, tenant);
-    if number != 0 {
-        return number;
-    }
+    tenant_refusal(height, length, numbers, tenant)?;
     if height < level {
-        return LEVEL;
+        return Err(Refusal::Level);
     }
-    0
+    Ok(())
 }

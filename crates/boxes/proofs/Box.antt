@@ -130,11 +130,7 @@ module _ (h : ℕ) (S : State) (B : Book) (K : Kept h S B) where
       (e.0, e.1, le_antisymm (orderly_at h S.table (orderly h S B K) e.0 _ e.1).passed e.2)
 
   pub nobody_bars : ¬ SomebodyAtEight (line_by B) → barred (line_by B) ≡ false
-  nobody_bars none_there = go (barred (line_by B)) refl
-    where
-      go : (b : Bool) → barred (line_by B) ≡ b → b ≡ false
-      go true p = absurd (none_there (somebody_bars p))
-      go false p = refl
+  nobody_bars none_there = grind (arith, none_there, somebody_bars)
 
   other_asks : (c : Direct) (l : ℕ) → Asks h c l → Valid h c → B.holdings (tenant_of c) ≡ none → waits (tenant_of c) (line_by B) ≡ false
       → (((step h S (direct c)).answer ≡ 10) ↔ (SomebodyAtEight (line_by B) ⊎ NoPlacement h B.holdings l))

@@ -1,10 +1,11 @@
 -- Who is chosen from a line: the first that may be, and nobody if none may.
 use mathlib.Core.Path.{◌≡◌, refl}
-use mathlib.Core.Bool.{Bool, true, false, cond, ◌||◌, false≢true}
+use mathlib.Core.Bool.{Bool, true, false, ◌||◌, false≢true}
 use mathlib.Core.List.{List, [], ◌∷◌}
 use Prim.Native.Nat.{ℕ, zero, suc, ◌≤◌, ◌<◌, zero-le}
 use native.Mathlib.Omega.{arith}
 use borrow.Author.Tests.{leb-true}
+use Rattle.std.proofs.lemmas.Bool.Decides.{nat_tests}
 use lib.ListN.{length, get_or}
 use Rattle.line.specs.Line.{Waiting}
 use Rattle.line.specs.Changes.{eight, barred, place_chosen}
@@ -15,12 +16,8 @@ pub chosen_by : (fits : ℕ → Bool) (W : List Waiting) (k : ℕ) (d : Waiting)
 unfolding place_chosen
 chosen_by fits [] k d p f q = absurd (omega arith)
 chosen_by fits (w ∷ W) zero d p f q = rw f zero-le
-chosen_by fits (w ∷ W) (suc k) d p f q = go (fits w.level) (eight w) refl (chosen_by fits W k d (omega arith) f (λ i r. q (suc i) (omega arith)))
-  where
-    go : (b e : Bool) → eight w ≡ e → place_chosen fits W ≤ k → cond b 0 (suc (cond e (length W) (place_chosen fits W))) ≤ suc k
-    go true e p rest = zero-le
-    go false true p rest = absurd (omega (arith, q 0 (omega arith), leb-true 8 w.passed p))
-    go false false p rest = omega arith
+chosen_by fits (w ∷ W) (suc k) d p f q =
+    grind (arith, nat_tests, q 0 (omega arith), chosen_by fits W k d (omega arith) f (λ i r. q (suc i) (omega arith)))
 
 -- who makes a line barred was passed eight times
 pub at_eight : (W : List Waiting) (d : Waiting) → barred W ≡ true → (k : ℕ) × (k < length W) × (8 ≤ (get_or W k d).passed)

@@ -1,6 +1,7 @@
 -- After each row of the worked examples those wait by the book whom the row names.
-use mathlib.Core.Path.{◌≡◌, refl, subst}
+use mathlib.Core.Path.{◌≡◌, refl}
 use mathlib.Core.List.{List, [], ◌∷◌}
+use native.Mathlib.Omega.{arith}
 use Rattle.tree.specs.Node.{depth}
 use Rattle.sizes.specs.Level.{least_level, level_for}
 use Rattle.admission.specs.Examples.{examples}
@@ -9,11 +10,7 @@ use Rattle.boxes.specs.Examples.{WaitAsWritten, AllWaitAsWritten}
 
 -- somebody waits
 not_empty : {A : Type 0} {x : A} {xs : List A} → x ∷ xs ≡ [] → ⊥
-not_empty {A} e = subst filled e tt
-  where
-    filled : List A → Type 0
-    filled [] = ⊥
-    filled (x ∷ xs) = Unit {0}
+not_empty e = grind arith
 
 pub waiting_as_written : AllWaitAsWritten examples
 unfolding AllWaitAsWritten WaitAsWritten left among passes waiting_after depth least_level level_for

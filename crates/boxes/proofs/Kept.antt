@@ -5,7 +5,7 @@ use mathlib.Core.List.{List, map}
 use mathlib.Core.Option.{Option, some, none}
 use Prim.Native.Nat.{ℕ, suc, ◌≤◌, ◌<◌}
 use native.Mathlib.Omega.{arith}
-use borrow.Author.Tests.{eq-eqb, ne_eqb}
+use borrow.Author.Tests.{ne_eqb}
 use lib.ListN.{length, length-map}
 use Rattle.table.specs.Table.{node_at}
 use Rattle.line.specs.Line.{Waiting, line_of, waiting_in}
@@ -13,6 +13,7 @@ use Rattle.line.specs.Order.{waits, Orderly, LineInOrder}
 use Rattle.line.specs.Changes.{barred, once_more}
 use Rattle.line.proofs.Numbers.{length_line, read_of_line}
 use Rattle.line.proofs.Ordered.{decides_line, line_of_orderly}
+use Rattle.std.proofs.lemmas.Bool.Decides.{nat_tests}
 use Rattle.line.proofs.Places.{orderly_passed, orderly_over, waits_passed}
 use Rattle.passes.specs.Events.{granted, waiting_after}
 use Rattle.passes.proofs.Events.{after_grant}
@@ -50,16 +51,8 @@ module _ (h : ℕ) (S : State) (B : Book) (K : Kept h S B) where
 
   -- one that waits has nothing in the book
   pub waiting_in_book : (t : ℕ) → waits t (waiting_in S.line) ≡ true → B.holdings t ≡ none
-  waiting_in_book t e = go (B.holdings t) refl
-    where
-      go : (x : Option ℕ) → B.holdings t ≡ x → x ≡ none
-      go none p = refl
-      go (some k) p =
-          absurd (omega (
-            arith,
-            has_node h S.table B.holdings K.table t k p,
-            waiting_holds_none h S.table (waiting_in S.line) K.line.orderly t e,
-          ))
+  waiting_in_book t e =
+      grind (arith, has_node h S.table B.holdings K.table t, waiting_holds_none h S.table (waiting_in S.line) K.line.orderly t e)
 
 -- the line W over a new table that agrees with a new book, if those who wait have nothing there
 pub line_kept : (h : ℕ) (T T' : List ℕ) (H' : Holdings) (W : List Waiting) → TableKept h T' H' → length W ≤ 64 → Orderly h T W
@@ -118,8 +111,7 @@ module _ (h : ℕ) (S : State) (B : Book) (K : Kept h S B) (c : Direct) where
       (λ t w. beside (tenant_of c) t x B.holdings (other_waits t w holds) (waiting_in_book h S B K t w))
     where
       had_one : (y : Option ℕ) → B.holdings (tenant_of c) ≡ y → gave_block y (write (tenant_of c) x B.holdings (tenant_of c)) ≡ false
-      had_one none p = absurd (omega (arith, holds, has_nothing h S.table B.holdings K.table (tenant_of c) p))
-      had_one (some k) p = refl
+      had_one y p = grind (arith, holds, has_nothing h S.table B.holdings K.table (tenant_of c))
 
   -- a block given passes everybody in line
   given_kept : (l : ℕ) → Granted h S.table c l → waits (tenant_of c) (waiting_in S.line) ≡ false → barred (waiting_in S.line) ≡ false
@@ -142,8 +134,7 @@ module _ (h : ℕ) (S : State) (B : Book) (K : Kept h S B) (c : Direct) where
       })
     where
       had_none : (y : Option ℕ) → B.holdings (tenant_of c) ≡ y → gave_block y (write (tenant_of c) (some l) B.holdings (tenant_of c)) ≡ true
-      had_none none p = rw (eq-eqb (tenant_of c) (tenant_of c) refl)
-      had_none (some k) p = absurd (omega (arith, g.nothing, has_node h S.table B.holdings K.table (tenant_of c) k p))
+      had_none y p = grind (arith, nat_tests, g.nothing, has_node h S.table B.holdings K.table (tenant_of c))
 
       still_none : (u : ℕ) → waits u (map once_more (waiting_in S.line)) ≡ true → write (tenant_of c) (some l) B.holdings u ≡ none
       still_none u w =

@@ -1,13 +1,12 @@
 -- The line that one has left: how long it is, and who is in it.
 use mathlib.Core.Path.{◌≡◌, refl, sym, ap, ◌∙◌}
-use mathlib.Core.Bool.{Bool, true, false, cond, false≢true}
+use mathlib.Core.Bool.{true, false, false≢true}
 use mathlib.Core.List.{List, [], ◌∷◌}
 use mathlib.Core.Option.{some}
 use Prim.Native.Nat.{ℕ, zero, suc, ◌<◌}
 use native.Mathlib.Omega.{arith}
-use native.Mathlib.Decide.{ℕ_discrete}
 use borrow.Author.Tests.{eq-eqb, ne_eqb}
-use lib.Dec.{eqb}
+use Rattle.std.proofs.lemmas.Bool.Decides.{nat_tests}
 use lib.ListN.{length, get_or}
 use Rattle.line.specs.Line.{Waiting}
 use Rattle.line.specs.Order.{waits, Orderly, nobody, before}
@@ -19,32 +18,19 @@ use Rattle.boxes.specs.History.{level_in}
 pub length_left : (f : Waiting → Waiting) (t : ℕ) (W : List Waiting) → waits t W ≡ true → suc (length (leave f t W)) ≡ length W
 unfolding waits leave
 length_left f t [] e = absurd (false≢true e)
-length_left f t (w ∷ W) e = go (ℕ_discrete w.tenant t) (length_left f t W)
-  where
-    go : Dec (w.tenant ≡ t) → (waits t W ≡ true → suc (length (leave f t W)) ≡ length W)
-        → suc (length (cond (eqb w.tenant t) W (f w ∷ leave f t W))) ≡ suc (length W)
-    go (yes is) rest = rw (eq-eqb w.tenant t is)
-    go (no is_not) rest = rw (ne_eqb w.tenant t is_not) (ap suc (rest (rw (ne_eqb w.tenant t is_not) at e)))
+length_left f t (w ∷ W) e = grind (arith, nat_tests, length_left f t W)
 
 -- it is not in line any more
 pub gone : (h : ℕ) (T : List ℕ) (f : Waiting → Waiting) → ((w : Waiting) → (f w).tenant ≡ w.tenant) → (t : ℕ) (W : List Waiting) → Orderly h T W
     → waits t (leave f t W) ≡ false
 unfolding waits leave
 gone h T f same t W nobody = refl
-gone h T f same t W (before {w = w} {W = W'} may once rest) = go (ℕ_discrete w.tenant t) (gone h T f same t W' rest)
-  where
-    go : Dec (w.tenant ≡ t) → waits t (leave f t W') ≡ false → waits t (cond (eqb w.tenant t) W' (f w ∷ leave f t W')) ≡ false
-    go (yes is) left = rw (eq-eqb w.tenant t is) (ap (λ (u : ℕ). waits u W') (sym is) ∙ once)
-    go (no is_not) left = rw (ne_eqb w.tenant t is_not, same w, ne_eqb w.tenant t is_not) left
+gone h T f same t W (before {w = w} {W = W'} may once rest) = grind (arith, nat_tests, same w, once, gone h T f same t W' rest)
 
 -- and who is in line was so before
 pub was_waiting : (f : Waiting → Waiting) → ((w : Waiting) → (f w).tenant ≡ w.tenant) → (s t : ℕ) (W : List Waiting)
     → waits s (leave f t W) ≡ true → waits s W ≡ true
-was_waiting f same s t W e = go (waits s W) refl
-  where
-    go : (b : Bool) → waits s W ≡ b → b ≡ true
-    go true p = refl
-    go false p = absurd (false≢true (sym (waits_not_left f same s t W p) ∙ e))
+was_waiting f same s t W e = grind (arith, waits_not_left f same s t W)
 
 -- the level that the one at place k waits for
 pub level_of_own : (h : ℕ) (T : List ℕ) (W : List Waiting) → Orderly h T W → (k : ℕ) (d : Waiting) → k < length W

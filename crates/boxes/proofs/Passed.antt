@@ -7,6 +7,7 @@ use Prim.Native.Nat.{ℕ, zero, suc, ◌+◌, ◌≤◌}
 use native.Mathlib.Omega.{arith}
 use borrow.Author.Tests.{eq-eqb, ne_eqb}
 use lib.Dec.{eqb}
+use Rattle.std.proofs.lemmas.Bool.Decides.{nat_tests}
 use Rattle.tree.specs.Node.{level}
 use Rattle.tree.specs.Held.{one_if}
 use Rattle.table.specs.Table.{node_at}
@@ -31,17 +32,12 @@ use Rattle.boxes.proofs.Waiting.{orderly, in_line, waiting}
 waits_for_some : (t : ℕ) (W : List Waiting) → waits t W ≡ true → gave_block none (level_in t W) ≡ true
 unfolding waits
 waits_for_some t [] e = absurd (false≢true e)
-waits_for_some t (w ∷ W) e = go (eqb w.tenant t) e (waits_for_some t W)
-  where
-    go : (is : Bool) → is || waits t W ≡ true → (waits t W ≡ true → gave_block none (level_in t W) ≡ true)
-        → gave_block none (cond is (some w.level) (level_in t W)) ≡ true
-    go true q behind = refl
-    go false q behind = behind q
+waits_for_some t (w ∷ W) e = grind (arith, waits_for_some t W)
 
 -- what a table says of a tenant is what a book says that agrees with it
 read_in_table : (h : ℕ) (x : Option ℕ) (n : ℕ) → Agrees h x n → cond (eqb n 0) none (some (level h n)) ≡ x
 read_in_table h none n a = rw a
-read_in_table h (some l) n a = rw (ne_eqb n 0 (λ z. omega (arith, z, a.0.above_zero)), a.1)
+read_in_table h (some l) n a = grind (arith, nat_tests, a.0.above_zero, a.1)
 
 -- what a call adds to the events: whom it passes, and who leaves by it
 record Added (h : ℕ) (S : State) (B : Book) (c : Call) : Type 0 where

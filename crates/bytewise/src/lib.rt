@@ -3,24 +3,21 @@
 #![tactic(auto)]
 
 ghost use Rattle.std.specs.Prelude.{◌≡◌, ◌≤◌, length};
-ghost use Rattle.pagemap.specs.Count.{set_bits, counted};
+ghost use Rattle.refusal.specs.Number.{number_in};
+ghost use Rattle.pagemap.specs.Count.{set_bits, counted, count_in};
 
-use pagemap::{Counted, MAP_BYTES};
-use refusal::TOO_SHORT;
+use pagemap::MAP_BYTES;
+use refusal::Refusal;
 
-// The number of set bits in the first 512 bytes; 15 for a shorter map.
-pub fn bytewise_count(map: &[u8]) -> Counted
-    ensures { result ≡ counted map.now }
+// The number of set bits in the first 512 bytes; a shorter map is refused.
+pub fn bytewise_count(map: &[u8]) -> Result<u16, Refusal>
+    ensures answer { number_in result ≡ (counted map.now).answer }
+    ensures count { count_in result ≡ (counted map.now).count }
 {
     if MAP_BYTES <= map.len() {
-        return Counted {
-            answer: 0,
-            count: set_bits(&map[..MAP_BYTES]),
-        };
-    }
-    Counted {
-        answer: TOO_SHORT,
-        count: 0,
+        Ok(set_bits(&map[..MAP_BYTES]))
+    } else {
+        Err(Refusal::TooShort)
     }
 }
 
@@ -30,10 +27,8 @@ fn set_bits(bytes: &[u8]) -> u16
     ensures { result ≡ set_bits bytes.now }
 {
     let mut n: u16 = 0;
-    let mut i = 0;
-    while i < bytes.len() {
-        n += u8::count_ones(bytes[i]) as u16;
-        i += 1;
+    for byte in bytes {
+        n += byte.count_ones() as u16;
     }
     n
 }

@@ -6,6 +6,9 @@ use Prim.Native.Nat.{ℕ, ◌≤◌}
 use native.Mathlib.Omega.{arith}
 use lib.Dec.{eqb, ltb}
 use lib.ListN.{length}
+use Rattle.refusal.specs.declared.Refusal.{Refusal}
+use Rattle.refusal.specs.Number.{number_of}
+use Rattle.refusal.proofs.Numbers.{not_zero}
 use Rattle.table.specs.Table.{in_order?}
 use Rattle.rules.specs.Call.{Call, tenant_of}
 use Rattle.rules.specs.Step.{refused, Check, check, first, reserve_checks, size_checks, validity, holdings, unless, accepted, step}
@@ -24,28 +27,28 @@ arguments h T c = reserve_checks h T ++ validity h c
 pub arguments_numbered : (h : ℕ) (T : List ℕ) (c : Call) → Numbered (arguments h T c)
 arguments_numbered h T c = (omega arith, (omega arith, validity_numbered h c))
 
-module _ (h : ℕ) (T : List ℕ) (c : Call) (k : ℕ) (asked : k ≡ first (arguments h T c)) where
+module _ (h : ℕ) (T : List ℕ) (c : Call) where
   by_table : List Check
   by_table = check 7 (not (in_order? h T)) ∷ holdings h T c
 
-  pub call_refused : ¬ (k ≡ 0) → refused k T ≡ step h T c
+  pub call_refused : (e : Refusal) → number_of e ≡ first (arguments h T c) → refused (number_of e) T ≡ step h T c
   unfolding step by_table
-  call_refused ne =
-      refused_unless k T (accepted h T c) ne
-      ∙ ap (λ (n : ℕ). unless n T (accepted h T c)) (asked ∙ sym (first_stands (arguments h T c) by_table (λ z. ne (asked ∙ z))))
+  call_refused e is =
+      let ne = not_zero e (number_of e) refl in
+      refused_unless (number_of e) T (accepted h T c) ne
+      ∙ ap (λ (n : ℕ). unless n T (accepted h T c)) (is ∙ sym (first_stands (arguments h T c) by_table (λ z. ne (is ∙ z))))
 
-  module _ (none : k ≡ 0) where
+  module _ (passed : first (arguments h T c) ≡ 0) where
     decided : unless (first by_table) T (accepted h T c) ≡ step h T c
     unfolding step by_table
     decided =
-        ap (λ (n : ℕ). unless n T (accepted h T c))
-        (sym (first_after_none (arguments h T c) by_table (arguments_numbered h T c) (sym asked ∙ none)))
+        ap (λ (n : ℕ). unless n T (accepted h T c)) (sym (first_after_none (arguments h T c) by_table (arguments_numbered h T c) passed))
 
     height_checked : h ≤ 12
-    height_checked = height_passed h (check 2 (not (eqb (length T) 4096)) ∷ validity h c) (sym asked ∙ none)
+    height_checked = height_passed h (check 2 (not (eqb (length T) 4096)) ∷ validity h c) passed
 
     length_checked : first (check 2 (not (eqb (length T) 4096)) ∷ validity h c) ≡ 0
-    length_checked = rest_zero 1 (ltb 12 h) (check 2 (not (eqb (length T) 4096)) ∷ validity h c) (omega arith) (sym asked ∙ none)
+    length_checked = rest_zero 1 (ltb 12 h) (check 2 (not (eqb (length T) 4096)) ∷ validity h c) (omega arith) passed
 
     pub valid : first (validity h c) ≡ 0
     valid = rest_zero 2 (not (eqb (length T) 4096)) (validity h c) (omega arith) length_checked
@@ -87,12 +90,12 @@ module _ (h : ℕ) (T : List ℕ) (m : ℕ) where
   same_change (Grow t l) = refl
 
 -- a call whose arguments have passed, with any number of entries that they take
-module _ (h : ℕ) (T : List ℕ) (c : Arguments) (m k : ℕ) (asked : k ≡ first (arguments h T (call_of c m))) (none : k ≡ 0) where
+module _ (h : ℕ) (T : List ℕ) (c : Arguments) (m : ℕ) (passed : first (arguments h T (call_of c m)) ≡ 0) where
   pub ready_to_change : Ready h T (tenant_of (call_of c 0))
-  ready_to_change = subst (Ready h T) (same_tenant h T m c) (ready h T (call_of c m) k asked none)
+  ready_to_change = subst (Ready h T) (same_tenant h T m c) (ready h T (call_of c m) passed)
 
   pub sized_to_change : first (size_checks h (call_of c 0)) ≡ 0
-  sized_to_change = sym (same_size h T m c) ∙ sized h T (call_of c m) k asked none
+  sized_to_change = sym (same_size h T m c) ∙ sized h T (call_of c m) passed
 
   pub changes : change_on h T (call_of c 0) ≡ step h T (call_of c m)
-  changes = same_change h T m c ∙ call_changes h T (call_of c m) k asked none
+  changes = same_change h T m c ∙ call_changes h T (call_of c m) passed

@@ -10,6 +10,7 @@ use borrow.Author.Tests.{le-leb, lt-leb}
 use lib.ListN.{length, get_or, set, length-set}
 use lib.Seq.{get_or-take, get_or-set_same, get_or-set_other, set-get_or, set_out}
 use lib.Pow.{pow_mono}
+use Rattle.std.specs.Prelude.{Ok}
 use Rattle.tree.specs.Node.{level}
 use Rattle.layout.specs.Layout.{pages}
 use Rattle.layout.specs.Set.{layout_set}
@@ -30,19 +31,23 @@ use Rattle.plans.proofs.Written.{written_is_moved}
 use Rattle.plans.proofs.PlanOf.{moves_in_plan_of, count_in_plan_of, made_of_its_moves}
 use Rattle.plans.proofs.PlanLaws.{Replan, plannable, plan_of_table, replan}
 use Rattle.carrying.specs.Order.{moves_in_order, Orderable}
-use Rattle.rules.specs.Step.{counts_but, granted, released}
+use Rattle.rules.specs.Step.{counts_but}
 use Rattle.rules.specs.History.{in_table}
 use Rattle.rules.specs.Value.{Gives, TenantsIn}
-use Rattle.rules.specs.declared.Answer.TheVariants.{Done}
-use Rattle.calls.specs.Changes.{Ready, others, Target, given_up, placed, Resettled}
-use Rattle.rules.proofs.Given.{above_zero}
+use Rattle.rules.specs.declared.Done.{Done}
+use Rattle.calls.specs.Changes.{Ready, Looked, others, Target, given_up, placed, Resettled, place_on, release_on}
+use Rattle.calls.specs.declared.change.Look.{Look}
+use Rattle.std.proofs.Math.Nat.{pos_of_ne-zero}
+use Rattle.layout.specs.Counts.{more}
+use Rattle.layout.proofs.Counting.{more_below}
+use Rattle.rules.proofs.Given.{gives_same}
 use Rattle.rules.proofs.Kept.{Kept, level_in_counts}
 use Rattle.rules.proofs.Struck.{node_after_set}
 use Rattle.rules.proofs.Placing.{Coming, new_counts_fit, coming_movable, grant_coming}
 use Rattle.rules.proofs.Releasing.{release_movable, counts_before, level_in_fewer, fewer_counts_fit, growth_coming}
 use Rattle.rules.proofs.Reported.{grant_moves_few, release_moves_few, growth_moves_few}
 use Rattle.rules.proofs.Accepted.{kept_of_order}
-use Rattle.calls.proofs.Changing.{others_are_all, nothing_to_strike, others_of_holder}
+use Rattle.calls.proofs.Changing.{others_are_all, nothing_to_strike, others_of_holder, place_with_room, release_by_holder}
 
 -- a reserve has at most 4,096 pages
 pages_below : (h n : ℕ) → h ≤ 12 → n ≤ 2 ^ h → n ≤ 4096
@@ -95,7 +100,7 @@ plan_orderable {h} {cs} {ds} {gone} {T} {owners} p x r planned =
           (p.movable.within _ (moved_in_new p.movable _ (subst (λ (n : ℕ). 0 < n) (at i i<n).from_is (at i i<n).from_above_zero)));
     }
 
-module _ (h : ℕ) (T : List ℕ) (t : ℕ) (ready : Ready h T t) (seen : in_order? h T ≡ true) where
+module _ {h : ℕ} {T : List ℕ} {t : ℕ} (ready : Ready h T t) (seen : in_order? h T ≡ true) where
   order : InOrder h T
   order = (in_order_iff h T ready.height).0 seen
 
@@ -114,7 +119,7 @@ module _ (h : ℕ) (T : List ℕ) (t : ℕ) (ready : Ready h T t) (seen : in_ord
           rw (others_are_all h T t z, nothing_to_strike h T t z) (grant_coming kept t l ready.tenant z low (rw (← others_are_all h T t z) fits))
       go (no nz) =
           let same = others_of_holder h T t nz in
-          rw same (growth_coming h T (in_table h T) kept t ready.tenant (above_zero (node_at T t) nz) l low (rw (← same) fits))
+          rw same (growth_coming h T (in_table h T) kept t ready.tenant (pos_of_ne-zero nz) l low (rw (← same) fits))
 
   -- few of the others have to move for it
   coming_few : (l : ℕ) → l ≤ h → Movable h (layout_set h (one_block_more (others h T t) l)) struck
@@ -130,7 +135,7 @@ module _ (h : ℕ) (T : List ℕ) (t : ℕ) (ready : Ready h T t) (seen : in_ord
           rw (others_are_all h T t z, nothing_to_strike h T t z)
           (λ M. omega (arith, grant_moves_few h T l ready.height order in_counts M))
       go (no nz) =
-          let holds = above_zero (node_at T t) nz in
+          let holds = pos_of_ne-zero nz in
           let x = level h (node_at T t) in
           let fewer = counts_but h T t in
           rw (others_of_holder h T t nz)
@@ -156,70 +161,48 @@ module _ (h : ℕ) (T : List ℕ) (t : ℕ) (ready : Ready h T t) (seen : in_ord
       let C = coming l low room in
       record { movable = coming_movable C; few = coming_few l low (coming_movable C); fits = new_counts_fit C }
 
-  module _ (ds : List ℕ) (x : ℕ) (goal : Target h T t ds x) where
+  module _ {ds : List ℕ} {x : ℕ} (goal : Target h T t ds x) where
     asked : Replan h (counts_of h T) ds (node_at T t) struck (owners_of 8192 T)
     asked =
         let p = can_settle ds x goal in
         replan h T ready.height order t ds (rw ready.entries ready.tenant) p.fits p.movable p.few
 
-    pub old_counts_fit : pages (counts_of h T) ≤ 4096
-    old_counts_fit = pages_below h (pages (counts_of h T)) ready.height asked.old_fits
-
     pub target_fits : pages ds ≤ 4096
     target_fits = pages_below h (pages ds) ready.height asked.new_fits
 
-    pub target_plannable : Plannable h (rows_of (counts_of h T)) (rows_of ds) (node_at T t) (owners_of 8192 T)
-    target_plannable = plannable asked
-
-    module _ (r : Planned) (planned : AllPlanned h (rows_of (counts_of h T)) (rows_of ds) (node_at T t) x (owners_of 8192 T) r) where
-      pub target_tenants : TenantsIn struck r.plan
-      target_tenants = tenants_of_plan asked x r planned
-
-      pub target_orderable : Orderable h r.plan
-      target_orderable = plan_orderable asked x r planned
-
-      pub target_resettled : {T' : List ℕ} (q : Plan) → T' ≡ written struck (moves_in r.plan) → q ≡ plan_of (moves_in_order h (moves_in r.plan))
-          → Resettled h T t ds x (record { plan = q; node = r.node }) (set T' t r.node)
-      target_resettled q done ordered =
-          let p = plan_of_table asked x r planned in
-          let moves = moves_in_plan_of r.plan (moves_of h (layout_set h ds) struck) p.0 in
-          record {
-            plan = ordered ∙ ap (λ (ms : List Move). plan_of (moves_in_order h ms)) moves;
-            node = p.1;
-            table = ap (λ (S : List ℕ). set S t r.node) (done ∙ ap (written struck) moves ∙ written_is_moved asked.movable);
-          }
-
   -- ---- what the two callers make of it
 
-  pub place_gives : (l : ℕ) → l ≤ h → (r : Planned) (T' : List ℕ) → Resettled h T t (one_block_more (others h T t) l) l r T'
-      → Gives (granted h struck (layout_set h (one_block_more (others h T t) l)) t l) (record { answer = Done r.node; plan = r.plan }) T'
-  place_gives l low r T' done =
-      let node : r.node ≡ newcomer h (occupied struck) (layout_set h (one_block_more (others h T t) l)) l = done.node ∙ rw (le-leb l h low) in
-      record {
-        answer = ap Done node;
-        plan = done.plan;
-        table = done.table ∙ ap (set (moved h (layout_set h (one_block_more (others h T t) l)) struck) t) node;
-      }
+  pub place_gives : {l : ℕ} → l ≤ h → pages (others h T t) + 2 ^ l ≤ 2 ^ h → {r : Done} {T' : List ℕ}
+      → Resettled h T t (one_block_more (others h T t) l) l r T' → Gives (place_on h T t l) (Ok r) T'
+  place_gives {l} low room {r} {T'} done =
+      let N = layout_set h (one_block_more (others h T t) l) in
+      let node : r.node ≡ newcomer h (occupied struck) N l = done.node ∙ rw (le-leb l h low) in
+      gives_same
+      (record { answer = refl; node = node; plan = done.plan; table = done.table ∙ ap (set (moved h N struck) t) node })
+      (place_with_room h T t l room)
 
-  pub release_gives : 0 < node_at T t → (r : Planned) (T' : List ℕ) → Resettled h T t (others h T t) no_level r T'
-      → Gives (released h T (layout_set h (counts_but h T t)) t) (record { answer = Done (node_at T t); plan = r.plan }) T'
-  release_gives holds r T' done =
-      let M = (can_settle (others h T t) no_level (given_up holds)).movable in
+  pub release_gives : ¬ (node_at T t ≡ 0) → {r : Done} {T' : List ℕ} → Resettled h T t (others h T t) no_level r T'
+      → Gives (release_on h T t) (Ok (record { node = node_at T t; plan = r.plan })) T'
+  release_gives holds {r} {T'} done =
+      let M = (can_settle (others h T t) no_level (given_up (pos_of_ne-zero holds))).movable in
       let N = layout_set h (others h T t) in
       let none : r.node ≡ 0 = done.node ∙ rw (lt-leb no_level h (omega arith)) in
       let out : node_at (moved h N struck) t ≡ 0 = moved_nothing M t (node_after_set T t 0 (rw ready.entries ready.tenant)) in
-      let same = others_of_holder h T t (λ z. omega (arith, holds, z)) in
-      record {
+      let same = others_of_holder h T t holds in
+      gives_same
+      (record {
         answer = refl;
+        node = refl;
         plan = done.plan ∙ ap (λ (cs : List ℕ). plan_of (moves_in_order h (moves_of h (layout_set h cs) struck))) same;
         table = done.table
             ∙ ap (set (moved h N struck) t) (none ∙ sym out)
             ∙ set-get_or (moved h N struck) t 0
             ∙ ap (λ (cs : List ℕ). moved h (layout_set h cs) struck) same;
-      }
+      })
+      (release_by_holder h T t holds)
 
   -- the counts of the others, for which the room is asked
-  pub others_below : (l : ℕ) → l ≤ h → get_or (others h T t) l 0 < 65535
+  others_below : (l : ℕ) → l ≤ h → get_or (others h T t) l 0 < 65535
   others_below l low = go (ℕ_discrete (node_at T t) 0)
     where
       below : get_or (counts_of h T) l 0 < 65535
@@ -234,4 +217,42 @@ module _ (h : ℕ) (T : List ℕ) (t : ℕ) (ready : Ready h T t) (seen : in_ord
     where
       go : Dec (node_at T t ≡ 0) → pages (others h T t) ≤ 4096
       go (yes z) = rw (others_are_all h T t z) (pages_below h (pages (counts_of h T)) ready.height (in_order_fits h T ready.height order))
-      go (no nz) = target_fits (others h T t) no_level (given_up (above_zero (node_at T t) nz))
+      go (no nz) = target_fits (given_up (pos_of_ne-zero nz))
+
+  pub newcomer_counted : {l : ℕ} {cs ds : List ℕ} → l ≤ h → cs ≡ others h T t → ds ≡ more cs l → ds ≡ one_block_more (others h T t) l
+  newcomer_counted {l} low same is =
+      is ∙ ap (λ (xs : List ℕ). more xs l) same ∙ more_below (others h T t) l (others_below l low)
+
+-- ---- what is planned with a look at the table
+
+module _ {h : ℕ} {T : List ℕ} {t : ℕ} {k : Look} (ready : Ready h T t) (looked : Looked h T k) where
+  module _ {ds : List ℕ} {x : ℕ} (goal : Target h T t ds x) where
+    replanned : Replan h (counts_of h T) ds (node_at T t) (set T t 0) (owners_of 8192 T)
+    replanned = asked ready looked.in_order goal
+
+    pub old_counts_fit : pages k.counts.at ≤ 4096
+    old_counts_fit = rw looked.counts (pages_below h (pages (counts_of h T)) ready.height replanned.old_fits)
+
+    pub target_plannable : Plannable h (rows_of k.counts.at) (rows_of ds) (node_at T t) k.owners.now
+    target_plannable = rw (looked.counts, looked.owners) (plannable replanned)
+
+    module _ {r : Planned} (planned : AllPlanned h (rows_of k.counts.at) (rows_of ds) (node_at T t) x k.owners.now r) where
+      on_table : AllPlanned h (rows_of (counts_of h T)) (rows_of ds) (node_at T t) x (owners_of 8192 T) r
+      on_table = rw (looked.counts, looked.owners) at planned
+
+      pub target_tenants : TenantsIn (set T t 0) r.plan
+      target_tenants = tenants_of_plan replanned x r on_table
+
+      pub target_orderable : Orderable h r.plan
+      target_orderable = plan_orderable replanned x r on_table
+
+      pub target_resettled : {T' : List ℕ} {q : Plan} → T' ≡ written (set T t 0) (moves_in r.plan) → q ≡ plan_of (moves_in_order h (moves_in r.plan))
+          → Resettled h T t ds x (record { plan = q; node = r.node }) (set T' t r.node)
+      target_resettled done ordered =
+          let p = plan_of_table replanned x r on_table in
+          let moves = moves_in_plan_of r.plan (moves_of h (layout_set h ds) (set T t 0)) p.0 in
+          record {
+            plan = ordered ∙ ap (λ (ms : List Move). plan_of (moves_in_order h ms)) moves;
+            node = p.1;
+            table = ap (λ (S : List ℕ). set S t r.node) (done ∙ ap (written (set T t 0)) moves ∙ written_is_moved replanned.movable);
+          }

@@ -1,10 +1,10 @@
 -- The ways that a call with valid arguments can go.
-use mathlib.Core.Path.{◌≡◌, refl, sym, subst, ap, ◌∙◌}
+use mathlib.Core.Path.{◌≡◌, refl, sym, ap, ◌∙◌}
 use mathlib.Core.Bool.{Bool, true, false, cond}
 use mathlib.Core.List.{List, [], ◌∷◌}
 use Prim.Native.Nat.{ℕ, ◌+◌, ◌^◌, ◌≤◌, ◌<◌}
-use borrow.Author.Tests.{lt-ltb, le-ltb, eq-eqb, ne_eqb}
-use lib.Dec.{eqb, ltb}
+use borrow.Author.Tests.{lt-ltb, le-ltb, leb-true, leb-false, eq-eqb, ne_eqb}
+use lib.Dec.{eqb, ltb, leb}
 use lib.ListN.{set}
 use lib.Seq.{set-get_or}
 use Rattle.tree.specs.Node.{level}
@@ -12,25 +12,15 @@ use Rattle.layout.specs.Layout.{pages}
 use Rattle.layout.specs.Set.{layout_set}
 use Rattle.layout.specs.Change.{one_block_more}
 use Rattle.table.specs.Table.{node_at, counts_of, in_order?}
-use Rattle.table.specs.Owners.{owners_of}
 use Rattle.sizes.specs.Level.{level_for}
 use Rattle.survey.specs.declared.Finding.{Finding}
 use Rattle.survey.proofs.Surveyed.{Surveyed}
+use Rattle.layout.specs.declared.Counts.{Counts}
+use Rattle.calls.specs.declared.change.Look.{Look}
 use Rattle.rules.specs.Call.{Call, grant_level, grant_pages, release, grow}
 use Rattle.rules.specs.Step.{check, first, counts_but, refused, granted, repeated, released, unless}
 use Rattle.calls.specs.Changes.{Looked, without, others, place_on, to_holder, grant_on, release_on, grow_on, change_on}
 use Rattle.rules.proofs.Repeats.{repeats_if_holder, never_repeats}
-
--- ---- a grant to one that holds node n
-
-module _ (h : ℕ) (T : List ℕ) (n l : ℕ) where
-  pub holder_of_level : level h n ≡ l → repeated T n ≡ to_holder h T n l
-  unfolding to_holder
-  holder_of_level e = rw (eq-eqb (level h n) l e)
-
-  pub holder_of_another : ¬ (level h n ≡ l) → refused 8 T ≡ to_holder h T n l
-  unfolding to_holder
-  holder_of_another ne = rw (ne_eqb (level h n) l ne)
 
 module _ (h : ℕ) (T : List ℕ) (t : ℕ) where
   -- ---- the others' counts
@@ -116,13 +106,21 @@ module _ (h : ℕ) (T : List ℕ) where
     change_grows l = rw e
 
 -- what a survey shows of a table in order
-pub looked : {h : ℕ} {T o : List ℕ} {r : Finding} → Surveyed h T o r → r.in_order ≡ true → Looked h T r.counts.at o
-looked found seen = record { in_order = sym found.order_tested ∙ seen; counts = found.counts seen; owners = found.owners seen }
+pub looked : {h : ℕ} {T : List ℕ} {r : Finding} {k : Look} → Surveyed h T k.owners.now r → r.counts ≡ k.counts → r.in_order ≡ true → Looked h T k
+looked found same seen = record {
+  in_order = sym found.order_tested ∙ seen;
+  counts = ap (λ (cs : Counts). cs.at) (sym same) ∙ found.counts seen;
+  owners = found.owners seen;
+}
 
--- what holds of the table's own counts and owners holds of those that were looked up, and the other way round
-module _ {h : ℕ} {T cs o : List ℕ} (P : List ℕ → List ℕ → Type 0) (l : Looked h T cs o) where
-  pub of_looked : P (counts_of h T) (owners_of 8192 T) → P cs o
-  of_looked p = subst (λ (xs : List ℕ). P xs o) (sym l.counts) (subst (P (counts_of h T)) (sym l.owners) p)
+-- ---- what a look shows of the others
 
-  pub of_table : P cs o → P (counts_of h T) (owners_of 8192 T)
-  of_table p = subst (P (counts_of h T)) l.owners (subst (λ (xs : List ℕ). P xs o) l.counts p)
+module _ {h : ℕ} {T : List ℕ} {k : Look} (t : ℕ) (l : Looked h T k) where
+  pub others_counted : {cs : List ℕ} → cs ≡ without h k.counts.at (node_at T t) → cs ≡ others h T t
+  others_counted is = is ∙ ap (λ (xs : List ℕ). without h xs (node_at T t)) l.counts
+
+pub room_found : (h l : ℕ) {cs ds : List ℕ} {b : Bool} → cs ≡ ds → b ≡ leb (pages cs + 2 ^ l) (2 ^ h) → b ≡ true → pages ds + 2 ^ l ≤ 2 ^ h
+room_found h l same tested found = leb-true _ _ (rw same at (sym tested ∙ found))
+
+pub no_room_found : (h l : ℕ) {cs ds : List ℕ} {b : Bool} → cs ≡ ds → b ≡ leb (pages cs + 2 ^ l) (2 ^ h) → b ≡ false → 2 ^ h < pages ds + 2 ^ l
+no_room_found h l same tested found = leb-false _ _ (rw same at (sym tested ∙ found))

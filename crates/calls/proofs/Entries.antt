@@ -1,6 +1,6 @@
 -- An answer 0 shows that the arguments were as they should be: the table has 4,096 entries, and the move list as many as the call takes at least.
 -- So every move goes into the list.
-use mathlib.Core.Path.{◌≡◌, refl, sym}
+use mathlib.Core.Path.{◌≡◌, refl}
 use mathlib.Core.Bool.{not}
 use mathlib.Core.List.{List, ◌∷◌}
 use Prim.Native.Nat.{ℕ, zero, suc, ◌≤◌, zero-le}
@@ -27,14 +27,14 @@ zero_passes zero T o e = refl
 zero_passes (suc k) T o e = e
 
 module _ (h : ℕ) (T : List ℕ) (c : Call) (none : first (checks h T c) ≡ 0) where
-  none_asked : 0 ≡ first (arguments h T c)
-  none_asked = sym (both_zero (arguments h T c) (check 7 (not (in_order? h T)) ∷ holdings h T c) (arguments_numbered h T c) none).0
+  passed : first (arguments h T c) ≡ 0
+  passed = (both_zero (arguments h T c) (check 7 (not (in_order? h T)) ∷ holdings h T c) (arguments_numbered h T c) none).0
 
   passed_table : length T ≡ 4096
-  passed_table = (ready h T c 0 none_asked refl).entries
+  passed_table = (ready h T c passed).entries
 
   passed_entries : least_entries c ≤ entries_of c
-  passed_entries = valid_entries h c (valid h T c 0 none_asked refl)
+  passed_entries = valid_entries h c (valid h T c passed)
 
 module _ (h : ℕ) (T : List ℕ) (c : Call) where
   pub done_table : (step h T c).answer ≡ 0 → length T ≡ 4096

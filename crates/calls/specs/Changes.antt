@@ -9,8 +9,9 @@ use Rattle.table.specs.Table.{node_at, occupied, counts_of, in_order?}
 use Rattle.table.specs.Owners.{owners_of}
 use Rattle.table.specs.Pairing.{newcomer, moved, moves_of}
 use Rattle.plans.specs.Plan.{plan_of}
-use Rattle.plans.specs.declared.Planned.{Planned}
 use Rattle.carrying.specs.Order.{moves_in_order}
+use Rattle.rules.specs.declared.Done.{Done}
+use Rattle.calls.specs.declared.change.Look.{Look}
 use Rattle.rules.specs.Call.{Call}
 use Rattle.rules.specs.Step.{Outcome, refused, check, first, grant_holdings, grow_holdings, counts_but, holdings}
 use Rattle.rules.specs.Step.{granted, repeated, block_for, released, accepted, unless}
@@ -21,11 +22,11 @@ pub record Ready (h : ℕ) (T : List ℕ) (t : ℕ) : Type 0 where
   pub entries : length T ≡ 4096
   pub tenant : t < 4096
 
--- the table is in order, cs are its counts, and o has the owner of each node
-pub record Looked (h : ℕ) (T cs o : List ℕ) : Type 0 where
+-- the table is in order, and the look has its counts and the owner of each node
+pub record Looked (h : ℕ) (T : List ℕ) (k : Look) : Type 0 where
   pub in_order : in_order? h T ≡ true
-  pub counts : cs ≡ counts_of h T
-  pub owners : o ≡ owners_of 8192 T
+  pub counts : k.counts.at ≡ counts_of h T
+  pub owners : k.owners.now ≡ owners_of 8192 T
 
 -- the counts without the block on node n, if that is one
 unfoldable pub without : ℕ → List ℕ → ℕ → List ℕ
@@ -42,7 +43,7 @@ pub data Target (h : ℕ) (T : List ℕ) (t : ℕ) : List ℕ → ℕ → Type 0
   placed : (l : ℕ) → l ≤ h → pages (others h T t) + 2 ^ l ≤ 2 ^ h → Target h T t (one_block_more (others h T t) l) l
 
 -- tenant t is out of the way, the others are in the layout of the counts ds, and t has the place on level x that they leave over, if it wants one
-pub record Resettled (h : ℕ) (T : List ℕ) (t : ℕ) (ds : List ℕ) (x : ℕ) (r : Planned) (T' : List ℕ) : Type 0 where
+pub record Resettled (h : ℕ) (T : List ℕ) (t : ℕ) (ds : List ℕ) (x : ℕ) (r : Done) (T' : List ℕ) : Type 0 where
   pub plan : r.plan ≡ plan_of (moves_in_order h (moves_of h (layout_set h ds) (set T t 0)))
   pub node : r.node ≡ cond (leb x h) (newcomer h (occupied (set T t 0)) (layout_set h ds) x) 0
   pub table : T' ≡ set (moved h (layout_set h ds) (set T t 0)) t r.node
@@ -50,7 +51,8 @@ pub record Resettled (h : ℕ) (T : List ℕ) (t : ℕ) (ds : List ℕ) (x : ℕ
 -- a block of level l for tenant t, in the place of the one that it has, if it has one: 10, or the block
 unfoldable pub place_on : ℕ → List ℕ → ℕ → ℕ → Outcome
 place_on h T t l =
-    unless (first (check 10 (ltb (2 ^ h) (pages (others h T t) + 2 ^ l)) ∷ [])) T (granted h (set T t 0) (layout_set h (one_block_more (others h T t) l)) t l)
+    unless (first (check 10 (ltb (2 ^ h) (pages (others h T t) + 2 ^ l)) ∷ [])) T
+    (granted h (set T t 0) (layout_set h (one_block_more (others h T t) l)) t l)
 
 -- a grant of level l to one that holds node n: 8, or the node
 unfoldable pub to_holder : ℕ → List ℕ → ℕ → ℕ → Outcome

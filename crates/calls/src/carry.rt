@@ -11,13 +11,7 @@ pub fn carry_out(table: &mut [u16], plan: Plan)
     requires { TenantsIn table.old plan }
     ensures { table.new ≡ written table.old (moves_in plan) }
 {
-    let n = plan.n;
-    let moves = plan.moves;
-    let mut i = 0;
-    while i < n {
-        let m = moves[i];
-        let t = m.tenant as usize;
-        table[t] = m.to;
-        i += 1;
+    for m in &plan.moves[..plan.n] {
+        table[m.tenant as usize] = m.to;
     }
 }

@@ -10,14 +10,23 @@ ghost use Rattle.calls.specs.Changes.{place_on, to_holder, grant_on, release_on,
 use crate::carry::carry_out;
 use carrying::in_order;
 use layout::{Counts, NO_LEVEL};
-use plans::{Plan, Planned, plan_moves};
-use refusal::{HOLDS, HOLDS_NONE, NO_ROOM, NOT_IN_ORDER};
-use rules::{Answer, Call, Called, refused};
+use plans::{Plan, plan_moves};
+use refusal::Refusal;
+use rules::{Call, Done};
 use sizes::level_for;
 use table::NODES;
 
+// What a survey shows of a table in order: how many blocks each level has, and each node's tenant and one.
+// Whether a look is one at the table, and whether table and tenant are ready, stay clauses: no ghost field can speak of the table, which is lent beside
+// the look and changed.
+#[derive(Clone, Copy)]
+pub struct Look<'a> {
+    pub counts: Counts,
+    pub owners: &'a [u16; NODES],
+}
+
 // Runs the call unless the table refuses it. All kinds of call go through this one function, so that the owners stand on the stack once.
-pub fn change(height: u16, table: &mut [u16], call: Call) -> Called
+pub fn change(height: u16, table: &mut [u16], call: Call) -> Result<Done, Refusal>
     requires ready { Ready height table.old (tenant_of (call_of call 0)) }
     requires size { first (size_checks height (call_of call 0)) ≡ 0 }
     ensures { Gives (change_on height table.old (call_of call 0)) result table.new }
@@ -25,42 +34,33 @@ pub fn change(height: u16, table: &mut [u16], call: Call) -> Called
     let mut owners = [0u16; NODES];
     let found = survey::survey(height, table, &mut owners);
     if !found.in_order {
-        return refused(NOT_IN_ORDER);
+        return Err(Refusal::NotInOrder);
     }
-    settle(height, table, call, found.counts, &owners)
+    let look = Look {
+        counts: found.counts,
+        owners: &owners,
+    };
+    settle(height, table, call, look)
 }
 
-// Runs the call on a table in order, whose counts and owners are known, unless what is held refuses it.
-pub fn settle(
-    height: u16,
-    table: &mut [u16],
-    call: Call,
-    counts: Counts,
-    owners: &[u16; NODES],
-) -> Called
+// Runs the call on a table in order, of which a look is at hand, unless what is held refuses it.
+pub fn settle(height: u16, table: &mut [u16], call: Call, look: Look) -> Result<Done, Refusal>
     requires ready { Ready height table.old (tenant_of (call_of call 0)) }
     requires size { first (size_checks height (call_of call 0)) ≡ 0 }
-    requires looked { Looked height table.old counts.at owners.now }
+    requires looked { Looked height table.old look }
     ensures { Gives (change_on height table.old (call_of call 0)) result table.new }
 {
     match call {
-        Call::GrantLevel { tenant, level } => grant(height, table, tenant, level, counts, owners),
+        Call::GrantLevel { tenant, level } => grant(height, table, tenant, level, look),
         Call::GrantPages { tenant, pages } => {
-            grant(
-                height,
-                table,
-                tenant,
-                level_for(height, pages),
-                counts,
-                owners,
-            )
+            grant(height, table, tenant, level_for(height, pages), look)
         }
-        Call::Release { tenant } => give_up(height, table, tenant, counts, owners),
+        Call::Release { tenant } => give_up(height, table, tenant, look),
         Call::Grow { tenant, level } => {
             if table[tenant as usize] == 0 {
-                return refused(HOLDS_NONE);
+                return Err(Refusal::HoldsNone);
             }
-            place(height, table, tenant, level, counts, owners)
+            place(height, table, tenant, level, look)
         }
     }
 }
@@ -71,12 +71,11 @@ fn grant(
     table: &mut [u16],
     tenant: u16,
     level: u16,
-    counts: Counts,
-    owners: &[u16; NODES],
-) -> Called
+    look: Look,
+) -> Result<Done, Refusal>
     requires ready { Ready height table.old tenant }
     requires level { level ≤ height }
-    requires looked { Looked height table.old counts.at owners.now }
+    requires looked { Looked height table.old look }
     ensures { Gives (grant_on height table.old tenant level) result table.new }
 {
     let t = tenant as usize;
@@ -84,46 +83,37 @@ fn grant(
     if node != 0 {
         return answer_holder(height, node, level);
     }
-    place(height, table, tenant, level, counts, owners)
+    place(height, table, tenant, level, look)
 }
 
 // What a grant of the level gets a tenant that holds the node: the node itself, if it is of that level, since the grant is then a repeated one.
-fn answer_holder(height: u16, node: u16, level: u16) -> Called
+#[tactic(auto, unfolding(crate::specs::Changes::to_holder))]
+fn answer_holder(height: u16, node: u16, level: u16) -> Result<Done, Refusal>
     ensures { (T : List ℕ) → Gives (to_holder height T node level) result T }
 {
     if tree::level(height, node) != level {
-        return refused(HOLDS);
+        return Err(Refusal::Holds);
     }
-    Called {
-        answer: Answer::Done { node },
+    Ok(Done {
+        node,
         plan: Plan::none(),
-    }
+    })
 }
 
 // Releases the tenant's block on a table in order, unless it holds none.
-fn give_up(
-    height: u16,
-    table: &mut [u16],
-    tenant: u16,
-    counts: Counts,
-    owners: &[u16; NODES],
-) -> Called
+fn give_up(height: u16, table: &mut [u16], tenant: u16, look: Look) -> Result<Done, Refusal>
     requires ready { Ready height table.old tenant }
-    requires looked { Looked height table.old counts.at owners.now }
+    requires looked { Looked height table.old look }
     ensures { Gives (release_on height table.old tenant) result table.new }
 {
     let t = tenant as usize;
     let node = table[t];
     if node == 0 {
-        return refused(HOLDS_NONE);
+        return Err(Refusal::HoldsNone);
     }
-    let rest = without(height, counts, node);
-    let done = resettle(height, table, tenant, counts, rest, NO_LEVEL, owners);
-    let plan = done.plan;
-    Called {
-        answer: Answer::Done { node },
-        plan,
-    }
+    let rest = without(height, look.counts, node);
+    let done = resettle(height, table, tenant, look, rest, NO_LEVEL);
+    Ok(Done { node, ..done })
 }
 
 // Gives the tenant a block of the level in the place of the one that it has, if it has one, unless there is no room.
@@ -132,37 +122,23 @@ fn place(
     table: &mut [u16],
     tenant: u16,
     level: u16,
-    counts: Counts,
-    owners: &[u16; NODES],
-) -> Called
+    look: Look,
+) -> Result<Done, Refusal>
     requires ready { Ready height table.old tenant }
     requires level { level ≤ height }
-    requires looked { Looked height table.old counts.at owners.now }
+    requires looked { Looked height table.old look }
     ensures { Gives (place_on height table.old tenant level) result table.new }
 {
     let t = tenant as usize;
-    let rest = without(height, counts, table[t]);
+    let rest = without(height, look.counts, table[t]);
     if !has_room(height, rest, level) {
-        return refused(NO_ROOM);
+        return Err(Refusal::NoRoom);
     }
-    let done = resettle(
-        height,
-        table,
-        tenant,
-        counts,
-        rest.one_more(level),
-        level,
-        owners,
-    );
-    let node = done.node;
-    let plan = done.plan;
-    Called {
-        answer: Answer::Done { node },
-        plan,
-    }
+    Ok(resettle(height, table, tenant, look, rest.one_more(level), level))
 }
 
 // The counts without the block on the node, if that is one.
+#[tactic(auto, unfolding(crate::specs::Changes::without))]
 fn without(height: u16, counts: Counts, node: u16) -> Counts
     ensures { result.at ≡ Changes·without height counts.at node }
 {
@@ -189,26 +165,25 @@ fn resettle(
     height: u16,
     table: &mut [u16],
     tenant: u16,
-    old: Counts,
+    look: Look,
     new: Counts,
     wanted: u16,
-    owners: &[u16; NODES],
-) -> Planned
+) -> Done
     requires ready { Ready height table.old tenant }
-    requires looked { Looked height table.old old.at owners.now }
+    requires looked { Looked height table.old look }
     requires target { Target height table.old tenant new.at wanted }
     ensures { Resettled height table.old tenant new.at wanted result table.new }
 {
     let t = tenant as usize;
     let gone = table[t];
-    let planned = plan_moves(height, old.layout(), new.layout(), gone, wanted, owners);
-    let plan = planned.plan;
-    let node = planned.node;
+    let from = look.counts.layout();
+    let to = new.layout();
+    let planned = plan_moves(height, from, to, gone, wanted, look.owners);
     table[t] = 0;
-    carry_out(table, plan);
-    table[t] = node;
-    Planned {
-        plan: in_order(height, plan),
-        node,
+    carry_out(table, planned.plan);
+    table[t] = planned.node;
+    Done {
+        node: planned.node,
+        plan: in_order(height, planned.plan),
     }
 }

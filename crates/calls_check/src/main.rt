@@ -2,14 +2,15 @@
 // lines of any length. A line for each call, as in the listing but without its ordinal: kind, height or tenant, level or pages, answer, node,
 // number of moves, and all seven entries of the array of moves, also those that no move stands in. A line with = has the numbers of the table,
 // or of the line, that are not 0, each behind its place. The papers' examples are journals in examples/, which tests/listing and tests/door run.
+// What cannot be written to standard output is missing there, and nothing else is said of it.
 #![tactic(auto)]
 
 use admission::{Admitted, Request};
-use line::{NUMBERS, Named};
+use line::NUMBERS;
 use planner::perform_by_value;
 use plans::Plan;
-use rules::{Answer, Call};
-use table::Move;
+use refusal::Refusal;
+use rules::Call;
 
 // The height of the reserve.
 const HEIGHT: u16 = 3;
@@ -21,7 +22,7 @@ fn main(rt: HostRuntime) {
 
 // Tables of 4,095, 4,096 and 4,097 entries.
 fn table_lengths(rt: &HostRuntime) {
-    text(rt, b"# tables of 4,095 entries, 4,096 and 4,097\n");
+    let _ = println!(rt; "# tables of 4,095 entries, 4,096 and 4,097");
     let mut short = [0u16; 4097];
     short[1] = 9;
     on_empty_line(rt, &mut short[..4095]);
@@ -41,7 +42,7 @@ fn on_empty_line(rt: &HostRuntime, table: &mut [u16]) {
 
 // Lines of 192, 193 and 194 numbers.
 fn line_lengths(rt: &HostRuntime) {
-    text(rt, b"# lines of 192 numbers, 193 and 194\n");
+    let _ = println!(rt; "# lines of 192 numbers, 193 and 194");
     let mut short = [0u16; 194];
     short[1] = 9;
     on_empty_table(rt, &mut short[..192]);
@@ -101,7 +102,7 @@ fn without_line(rt: &HostRuntime, table: &mut [u16], line: &mut [u16]) {
 
 fn open(rt: &HostRuntime, table: &mut [u16], line: &mut [u16]) {
     let answer = admission::open(HEIGHT, table, line);
-    print_unsized(rt, b"O ", HEIGHT);
+    let _ = print!(rt; "O {HEIGHT} -");
     print_answer(rt, answer);
 }
 
@@ -127,124 +128,84 @@ fn direct(rt: &HostRuntime, table: &mut [u16], line: &mut [u16], entries: usize,
 
 fn admit(rt: &HostRuntime, table: &mut [u16], line: &mut [u16]) {
     let admitted = perform_by_value(HEIGHT, table, line, 4, Request::Admit);
-    let named = admitted.named;
-    print_named(rt, named);
+    print_named(rt, admitted);
     print_admitted(rt, admitted);
 }
 
 fn join(rt: &HostRuntime, table: &[u16], line: &mut [u16], tenant: u16, level: u16) {
     let answer = admission::join(HEIGHT, table, line, tenant, level);
-    print_sized(rt, b"W ", tenant, level);
+    let _ = print!(rt; "W {tenant} {level}");
     print_answer(rt, answer);
 }
 
 fn withdraw(rt: &HostRuntime, table: &[u16], line: &mut [u16], tenant: u16) {
     let answer = admission::withdraw(HEIGHT, table, line, tenant);
-    print_unsized(rt, b"X ", tenant);
+    let _ = print!(rt; "X {tenant} -");
     print_answer(rt, answer);
 }
 
 // A call's kind, tenant, and level or pages.
 fn print_call(rt: &HostRuntime, call: Call) {
-    match call {
-        Call::GrantLevel { tenant, level } => print_sized(rt, b"G ", tenant, level),
-        Call::GrantPages { tenant, pages } => print_sized(rt, b"P ", tenant, pages),
-        Call::Release { tenant } => print_unsized(rt, b"R ", tenant),
-        Call::Grow { tenant, level } => print_sized(rt, b"Z ", tenant, level),
-    }
-}
-
-fn print_sized(rt: &HostRuntime, kind: &[u8], tenant: u16, size: u16) {
-    text(rt, kind);
-    print(rt, tenant as usize);
-    text(rt, b" ");
-    print(rt, size as usize);
-}
-
-fn print_unsized(rt: &HostRuntime, kind: &[u8], tenant: u16) {
-    text(rt, kind);
-    print(rt, tenant as usize);
-    text(rt, b" -");
+    let _ = match call {
+        Call::GrantLevel { tenant, level } => print!(rt; "G {tenant} {level}"),
+        Call::GrantPages { tenant, pages } => print!(rt; "P {tenant} {pages}"),
+        Call::Release { tenant } => print!(rt; "R {tenant} -"),
+        Call::Grow { tenant, level } => print!(rt; "Z {tenant} {level}"),
+    };
 }
 
 // An admit's kind, and the tenant granted.
-fn print_named(rt: &HostRuntime, named: Named) {
-    match named {
-        Named::Nobody => text(rt, b"A - -"),
-        Named::Tenant { tenant } => print_unsized(rt, b"A ", tenant),
-    }
+fn print_named(rt: &HostRuntime, admitted: Result<Admitted, Refusal>) {
+    let _ = match admitted {
+        Ok(
+            Admitted {
+                tenant: Some(tenant),
+                ..
+            },
+        ) => print!(rt; "A {tenant} -"),
+        _ => print!(rt; "A - -"),
+    };
 }
 
 // What a call reports that answers no node and moves nobody.
-fn print_answer(rt: &HostRuntime, answer: Answer) {
-    text(rt, b" ");
-    print(rt, answer.number() as usize);
-    text(rt, b" - 0\n");
+fn print_answer(rt: &HostRuntime, answer: Result<(), Refusal>) {
+    let number = match answer {
+        Ok(()) => 0,
+        Err(refusal) => u16::from(refusal),
+    };
+    let _ = println!(rt; " {number} - 0");
 }
 
-fn print_admitted(rt: &HostRuntime, admitted: Admitted) {
-    let answer = admitted.answer;
-    let plan = admitted.plan;
-    text(rt, b" ");
-    match answer {
-        Answer::Done { node } => {
-            text(rt, b"0 ");
-            print(rt, node as usize);
+// A refused call has no moves, so no entry of its array has one.
+fn print_admitted(rt: &HostRuntime, admitted: Result<Admitted, Refusal>) {
+    match admitted {
+        Ok(Admitted { node, plan, .. }) => {
+            let _ = print!(rt; " 0 {node}");
+            print_moves(rt, plan);
         }
-        Answer::Refused { number } => {
-            print(rt, number as usize);
-            text(rt, b" -");
+        Err(refusal) => {
+            let _ = print!(rt; " {} -", u16::from(refusal));
+            print_moves(rt, Plan::none());
         }
     }
-    text(rt, b" ");
-    print_moves(rt, plan);
-    text(rt, b"\n");
 }
 
 fn print_moves(rt: &HostRuntime, plan: Plan) {
-    print(rt, plan.n);
+    let _ = print!(rt; " {}", plan.n);
     for m in &plan.moves {
-        print_move(rt, *m);
+        let sign = if m.staged == 0 { '>' } else { '=' };
+        let _ = print!(rt; " {}:{}{sign}{}", m.tenant, m.from, m.to);
     }
-}
-
-fn print_move(rt: &HostRuntime, m: Move) {
-    text(rt, b" ");
-    print(rt, m.tenant as usize);
-    text(rt, b":");
-    print(rt, m.from as usize);
-    if m.staged == 0 {
-        text(rt, b">");
-    } else {
-        text(rt, b"=");
-    }
-    print(rt, m.to as usize);
+    let _ = println!(rt; "");
 }
 
 // The numbers that are not 0.
 fn show(rt: &HostRuntime, table: &[u16]) {
-    text(rt, b"=");
+    let _ = print!(rt; "=");
     for (tenant, node) in table.iter().enumerate() {
-        print_entry(rt, tenant, *node);
+        if *node != 0 {
+            let _ = print!(rt; " {tenant}:{node}");
+        }
     }
-    text(rt, b"\n");
-}
-
-fn print_entry(rt: &HostRuntime, tenant: usize, node: u16) {
-    if node == 0 {
-        return;
-    }
-    text(rt, b" ");
-    print(rt, tenant);
-    text(rt, b":");
-    print(rt, node as usize);
-}
-
-// Writes to standard output. What cannot be written is missing there, and nothing else is said of it.
-fn text(rt: &HostRuntime, bytes: &[u8]) {
-    let _ = rt.write_all(bytes);
-}
-
-fn print(rt: &HostRuntime, n: usize) {
-    let _ = rt.print(n);
+    let _ = println!(rt; "");
 }

@@ -43,7 +43,8 @@ module _ (h : ℕ) (ms : List Move) where
   -- each entry has the tenant and the nodes of a move of ms
   pub in_order_entry : (i : ℕ) → i < length (moves_in_order h ms)
       → (j : ℕ) × (j < length ms) × ((get_or (moves_in_order h ms) i no_move).tenant ≡ (get_or ms j no_move).tenant)
-      × ((get_or (moves_in_order h ms) i no_move).from ≡ (get_or ms j no_move).from) × ((get_or (moves_in_order h ms) i no_move).to ≡ (get_or ms j no_move).to)
+      × ((get_or (moves_in_order h ms) i no_move).from ≡ (get_or ms j no_move).from)
+      × ((get_or (moves_in_order h ms) i no_move).to ≡ (get_or ms j no_move).to)
   unfolding moves_in_order
   in_order_entry i q =
       let r = worked_entry h (by_tenant ms) i q in

@@ -6,5 +6,6 @@ use Rattle.carrying.specs.Order.{by_tenant, meet?, waiting_of, worked, moves_in_
 use Rattle.carrying.specs.Samples.{samples, AllAsWritten}
 
 pub lists_as_written : AllAsWritten samples
-unfolding AllAsWritten moves_in_order worked by_tenant waiting_of meet? depth chosen_of better_of cheaper_of apart? free_of works? cost_of order_of next_of
+unfolding
+    AllAsWritten moves_in_order worked by_tenant waiting_of meet? depth chosen_of better_of cheaper_of apart? free_of works? cost_of order_of next_of
 lists_as_written = (refl, (refl, (refl, (refl, tt))))

@@ -25,7 +25,8 @@ tenants_append s (x ∷ xs) ys = by_test (eqb x.staged s) (tenants_append s xs y
     by_test false e = e
 
 -- entries with the fourth number s have it, and no other
-tenants_of : (s r : ℕ) (b : Bool) → eqb s r ≡ b → (ms : List Move) (ks : List ℕ) → tenants_with r (entries s ms ks) ≡ cond b (map (tenant_at ms) ks) []
+tenants_of : (s r : ℕ) (b : Bool) → eqb s r ≡ b → (ms : List Move) (ks : List ℕ)
+    → tenants_with r (entries s ms ks) ≡ cond b (map (tenant_at ms) ks) []
 tenants_of s r true e ms [] = refl
 tenants_of s r true e ms (k ∷ ks) = rw e (ap (λ (us : List ℕ). tenant_at ms k ∷ us) (tenants_of s r true e ms ks))
 tenants_of s r false e ms [] = refl
@@ -61,7 +62,8 @@ module _ (ms : List Move) (ss : List ℕ) where
   at_most_one (k ∷ ks) zero q = omega arith
   at_most_one (k ∷ ks) (suc i) q = at_most_one ks i (omega arith)
 
-  pub zeros_first : (ks : List ℕ) (i j : ℕ) → i < j → j < length (listed ks) → (get_or (listed ks) i no_move).staged ≤ (get_or (listed ks) j no_move).staged
+  pub zeros_first : (ks : List ℕ) (i j : ℕ) → i < j → j < length (listed ks)
+      → (get_or (listed ks) i no_move).staged ≤ (get_or (listed ks) j no_move).staged
   zeros_first [] i j q r = omega (arith, ones ms ss i (omega arith), ones ms ss j r)
   zeros_first (k ∷ ks) i zero q r = absurd (omega arith)
   zeros_first (k ∷ ks) zero (suc j) q r = omega arith

@@ -85,7 +85,8 @@ module _ {h t : ℕ} {T T' : List ℕ} {ms : List Move} (M : Moving h t T T' ms)
       omega (arith, lies, ap L one, out)
 
   -- then those who lie nowhere are laid down in any order
-  set_down : (L : Lying) → Settled T' L → (us : List ℕ) → Once us → ((u : ℕ) → among u us ≡ true → (L u ≡ 0) × (0 < node_at T' u)) → LaidDown h T' L us
+  set_down : (L : Lying) → Settled T' L → (us : List ℕ) → Once us → ((u : ℕ) → among u us ≡ true → (L u ≡ 0) × (0 < node_at T' u))
+      → LaidDown h T' L us
   set_down L settled [] once out = Carrying.nobody L
   set_down L settled (u ∷ us) once out =
       let now = out u (is_first u (among u us)) in

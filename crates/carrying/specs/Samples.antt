@@ -1,6 +1,6 @@
 -- Lists that documents 01 and 02 give: the moves of a call by level and old node, as the tenants are paired with the nodes, and the list that
--- document 02, L2, makes of them. The first is line 4 of document 01's listing. Then come its grant at height 5, with its nodes held by the tenants from 0 on,
--- the release after that, and a growth that moves seven others (L5).
+-- document 02, L2, makes of them. The first is line 4 of document 01's listing. Then come its grant at height 5, with its nodes held by the
+-- tenants from 0 on, the release after that, and a growth that moves seven others (L5).
 use Rattle.std.specs.Prelude.{◌≡◌, List, [], ◌∷◌, ℕ}
 use Rattle.table.specs.declared.Move.{Move}
 use Rattle.carrying.specs.Order.{moves_in_order}

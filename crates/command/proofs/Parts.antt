@@ -1,5 +1,6 @@
 -- The parts of a buffer that is read into, or of bytes that are written, call by call.
-use Rattle.std.proofs.Common.{◌≡◌, ℕ, ◌+◌, ◌-◌, ◌≤◌, List, ◌++◌, length, take, drop, sym, ap, ◌∙◌, le_refl, drop_at, length-take-le}
+use Rattle.std.proofs.Common.{◌≡◌, ℕ, ◌+◌, ◌-◌, ◌≤◌, List, ◌++◌, length, take, drop}
+use Rattle.std.proofs.Common.{sym, ap, ◌∙◌, le_refl, drop_at, length-take-le}
 use Rattle.std.proofs.lemmas.Slice.{take-put_mid_below}
 use Rattle.std.proofs.lemmas.List.{take_rest}
 use borrow.Rule.Slice.PartMut.{put_mid, post_of}
@@ -17,5 +18,6 @@ read_more done n buf part within fits =
     sym (take-add done n new ∙ ap (λ l. l ++ take n (drop done new)) front ∙ ap (λ l. take done buf ++ l) behind)
 
 -- a call took n of the bytes behind the first `done`: with these they are the first done + n
-pub written_more : (done n : ℕ) (bytes : List ℕ) → take done bytes ++ take n (take (length bytes - done) (drop done bytes)) ≡ take (done + n) bytes
+pub written_more : (done n : ℕ) (bytes : List ℕ)
+    → take done bytes ++ take n (take (length bytes - done) (drop done bytes)) ≡ take (done + n) bytes
 written_more done n bytes = ap (λ l. take done bytes ++ take n l) (take_rest bytes done) ∙ sym (take-add done n bytes)

@@ -1,59 +1,88 @@
 // What a program says on standard error.
+ghost use Rattle.std.specs.Prelude.{◌≡◌, List, ℕ, IfSome, ◌≤◌, length};
+ghost use Rattle.std.specs.Fn.{FnOnceReturnsAtMut};
+
+use crate::Program;
 use crate::whole::write_all;
+use journal::RefusedAt;
 use std::io::{Cursor, Write};
 use std::{io, str};
 
-// Says what the program could not do, with the system's reason for the call that has just failed: "PROGRAM: cannot DEED THING: REASON".
-pub fn complain(rt: &HostRuntime, program: &[u8], deed: &[u8], thing: &[u8], reason: io::Error) {
-    let mut text = [0u8; 8192];
-    let n = words::message(program, deed, thing, &mut text);
-    say(rt, &text[..n]);
-    say(rt, b": ");
-    say_reason(rt, reason);
-    say(rt, b"\n");
-}
+// The room for a message. No path is as long as this.
+pub const ROOM: usize = 8192;
 
-// Says what the program could not do with a journal, and why: "PROGRAM: cannot DEED THING: REASON, refusal NUMBER at offset OFFSET".
-pub fn refuse(
-    rt: &HostRuntime,
-    program: &[u8],
-    deed: &[u8],
-    thing: &[u8],
-    number: u16,
-    offset: usize,
-) {
-    let mut text = [0u8; 8192];
-    let n = words::refusal(program, deed, thing, number, offset, &mut text);
-    say(rt, &text[..n]);
-}
+impl Program<'_> {
+    // What a call gave; or nothing, and standard error says what the program could not do.
+    pub(crate) fn or_complain<T: Drop>(
+        &self,
+        deed: &[u8],
+        thing: &[u8],
+        given: io::Result<T>,
+    ) -> Option<T>
+        ensures { IfSome result (λ it. given ≡ Ok it) }
+    {
+        match given {
+            Ok(it) => Some(it),
+            Err(reason) => {
+                self.complain(deed, thing, reason);
+                None
+            }
+        }
+    }
 
-// Says why the listing of a journal has ended: "PROGRAM: THING: REASON, refusal NUMBER at offset OFFSET".
-pub fn explain(rt: &HostRuntime, program: &[u8], thing: &[u8], number: u16, offset: usize) {
-    let mut text = [0u8; 8192];
-    let n = words::ending(program, thing, number, offset, &mut text);
-    say(rt, &text[..n]);
-}
+    // Says what the program could not do, with the system's reason for the call that has just failed: "PROGRAM: cannot DEED THING: REASON".
+    fn complain(&self, deed: &[u8], thing: &[u8], reason: io::Error) {
+        self.say_what(|text| words::message(self.name, deed, thing, text));
+        self.say(b": ");
+        self.say_reason(reason);
+        self.say(b"\n");
+    }
 
-// Says what is wrong with a word of the command line, "PROGRAM: FAULT WORD", and how the program is used.
-pub fn object(rt: &HostRuntime, program: &[u8], fault: &[u8], word: &[u8], usage: &[u8]) {
-    let mut text = [0u8; 8192];
-    let n = words::objection(program, fault, word, &mut text);
-    say(rt, &text[..n]);
-    say(rt, usage);
-}
+    // Says what the program could not do with a thing, and why: "PROGRAM: cannot DEED THING" and the reason, as it is.
+    pub(crate) fn say_cannot(&self, deed: &[u8], thing: &[u8], reason: &[u8]) {
+        self.say_what(|text| words::message(self.name, deed, thing, text));
+        self.say(reason);
+    }
 
-// Writes the bytes to standard error. There is nobody left to be told if that fails.
-pub fn say(rt: &HostRuntime, bytes: &[u8]) {
-    let _ = write_all(&mut rt.stderr(), bytes);
-}
+    // Says what the program could not do with a journal, and why: "PROGRAM: cannot DEED THING: REASON, refusal NUMBER at offset OFFSET".
+    pub(crate) fn refuse(&self, deed: &[u8], thing: &[u8], at: RefusedAt) {
+        self.say_what(|text| words::refusal(self.name, deed, thing, at, text));
+    }
 
-// Writes the system's words for an error to standard error. They are ASCII, and shorter than the buffer.
-fn say_reason(rt: &HostRuntime, reason: io::Error) {
-    let mut text = Cursor::new([0u8; 256]);
-    let _ = write!(text, "{reason}");
-    let text = text.into_inner();
-    if let Ok(text) = str::from_utf8(&text) {
-        say(rt, without_number(text).as_bytes());
+    // Says why the listing of a journal has ended: "PROGRAM: THING: REASON, refusal NUMBER at offset OFFSET".
+    pub(crate) fn explain(&self, thing: &[u8], at: RefusedAt) {
+        self.say_what(|text| words::ending(self.name, thing, at, text));
+    }
+
+    // Says what is wrong with a word of the command line, "PROGRAM: FAULT WORD", and how the program is used.
+    pub(crate) fn object(&self, fault: &[u8], word: &[u8]) {
+        self.say_what(|text| words::objection(self.name, fault, word, text));
+        self.say(self.usage);
+    }
+
+    // Says what `put` puts to the start of a text, whose length it answers.
+    fn say_what<F: FnOnce(&mut [u8]) -> usize>(&self, put: F)
+        requires callable { F.IsAlwaysCallable put }
+        requires within { (before after : List ℕ) (n : ℕ) → FnOnceReturnsAtMut F.FnOnce put before n after → n ≤ length after }
+    {
+        let mut text = [0u8; ROOM];
+        let n = put(&mut text);
+        self.say(&text[..n]);
+    }
+
+    // Writes the bytes to standard error. There is nobody left to be told if that fails.
+    fn say(&self, bytes: &[u8]) {
+        let _ = write_all(&mut self.rt.stderr(), bytes);
+    }
+
+    // Writes the system's words for an error to standard error. They are ASCII, and shorter than the buffer.
+    fn say_reason(&self, reason: io::Error) {
+        let mut text = Cursor::new([0u8; 256]);
+        let _ = write!(text, "{reason}");
+        let text = text.into_inner();
+        if let Ok(text) = str::from_utf8(&text) {
+            self.say(without_number(text).as_bytes());
+        }
     }
 }
 

@@ -1,5 +1,5 @@
 // Standard output, written and closed.
-use crate::message::complain;
+use crate::Program;
 use crate::whole::write_all;
 use std::fs::OpenOptions;
 use std::{fs, io};
@@ -11,37 +11,34 @@ const NO_SPACE: i32 = 28;
 
 const OVER_QUOTA: i32 = 122;
 
-// Writes all of the bytes to standard output, or says on standard error why they cannot be written.
-pub fn write_output(rt: &HostRuntime, program: &[u8], bytes: &[u8]) -> bool {
-    match write_all(&mut rt.stdout(), bytes) {
-        Ok(()) => true,
-        Err(reason) => {
-            complain(rt, program, b"write", b"standard output", reason);
-            false
+impl Program<'_> {
+    // Writes all of the bytes to standard output, or says on standard error why they cannot be written.
+    pub fn write_output(&self, bytes: &[u8]) -> bool {
+        let written = write_all(&mut self.rt.stdout(), bytes);
+        self.or_complain(b"write", b"standard output", written)
+            .is_some()
+    }
+
+    // Ends the writing to standard output and answers true, or says on standard error that it fails: some systems tell only then that a write failed.
+    pub fn close_output(&self) -> bool {
+        match self.sync_output() {
+            Err(reason) if is_loss(&reason) => self
+                .or_complain::<()>(b"write", b"standard output", Err(reason))
+                .is_some(),
+            _ => true,
         }
     }
-}
 
-// Ends the writing to standard output and answers true, or says on standard error that it fails: some systems tell only then that a write failed.
-pub fn close_output(rt: &HostRuntime, program: &[u8]) -> bool {
-    match sync_output(rt) {
-        Err(reason) if is_loss(&reason) => {
-            complain(rt, program, b"write", b"standard output", reason);
-            false
+    // Waits until what was written to standard output has reached the device, if it is a file. It is opened once more for that, by the name that the
+    // system has for it: nothing is known of what is no file, or cannot be opened.
+    fn sync_output(&self) -> io::Result<()> {
+        let output = "/proc/self/fd/1";
+        if !fs::metadata(self.rt, output)?.is_file() {
+            return Ok(());
         }
-        _ => true,
+        let file = OpenOptions::new().write(true).open(self.rt, output)?;
+        file.sync_all()
     }
-}
-
-// Waits until what was written to standard output has reached the device, if it is a file. It is opened once more for that, by the name that the
-// system has for it: nothing is known of what is no file, or cannot be opened.
-fn sync_output(rt: &HostRuntime) -> io::Result<()> {
-    let output = "/proc/self/fd/1";
-    if !fs::metadata(rt, output)?.is_file() {
-        return Ok(());
-    }
-    let file = OpenOptions::new().write(true).open(rt, output)?;
-    file.sync_all()
 }
 
 // Whether the error tells that bytes are lost.

@@ -1,5 +1,5 @@
-// Files by the bytes of their names. The system's library takes names that are text in UTF-8: another name is refused, with the reason that file systems
-// give which take no other.
+// Files by the bytes of their names. The system's library takes names that are text in UTF-8: another name is refused, with the reason that file
+// systems give which take no other.
 ghost use Rattle.std.specs.Prelude.{◌≡◌, ◌≤◌, ◌⊎◌, length, IfOk, OnErr, IsUtf8};
 
 use std::fs::{File, OpenOptions};

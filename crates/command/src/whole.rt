@@ -8,13 +8,6 @@ use std::io::{ErrorKind, Read, Write};
 
 const TRIES: usize = 1000;
 
-// What was read: so many bytes, after which the buffer was full or the input ended; or it could not be read, and standard error says why.
-#[derive(Clone, Copy)]
-pub enum Input {
-    Whole(usize),
-    Failed,
-}
-
 // Reads until the buffer is full, the input ends or a read fails, and answers how many bytes it put at the start of the buffer.
 pub fn read_all<R: Read>(source: &mut R, buf: &mut [u8]) -> io::Result<usize>
     ensures within { IfOk result (λ n. Counts n buf.new) }

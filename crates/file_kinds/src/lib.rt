@@ -82,10 +82,6 @@ fn ended(path: &[u8]) -> [u8; PATH_MAX]
     ensures { result ≡ padded path.now }
 {
     let mut ended = [0u8; PATH_MAX];
-    let mut i = 0;
-    while i < path.len() {
-        ended[i] = path[i];
-        i += 1;
-    }
+    ended[..path.len()].copy_from_slice(path);
     ended
 }

@@ -1,44 +1,51 @@
 -- Whom an admit grants, and what it leaves in the table and in the line.
 use mathlib.Core.Path.{◌≡◌, refl, sym, ap, ◌∙◌}
-use mathlib.Core.Bool.{Bool, true, false}
+use mathlib.Core.Bool.{Bool, true, false, not}
 use mathlib.Core.List.{List, [], ◌∷◌, ◌++◌, map}
 use mathlib.Core.Option.{some}
 use Prim.Native.Nat.{ℕ, suc, ◌+◌, ◌-◌, ◌^◌, ◌≤◌, ◌<◌}
 use native.Mathlib.Omega.{arith}
-use borrow.Author.Tests.{ltb-true, ltb-false, lt-ltb, le-ltb, le-leb, lt-leb, eq-eqb}
+use borrow.Author.Tests.{ltb-true, ltb-false, lt-ltb, le-ltb, le-leb, lt-leb, leb-true, eq-eqb}
 use lib.Dec.{ltb, leb}
 use lib.ListN.{length, get_or, take, drop, length-append, length-drop}
-use lib.Pow.{pow_pos, pow_mono}
+use lib.Pow.{pow_mono}
 use lib.Seq.{take_at, drop_at, length-take-le}
 use Rattle.tree.specs.Node.{depth}
 use Rattle.tree.proofs.Highest.{depth_highest}
 use Rattle.line.specs.Line.{Waiting, line_of, at, waiting_in, waiting_count}
-use Rattle.line.specs.Order.{waits, MayWait, Orderly, LineInOrder}
+use Rattle.line.specs.Order.{waits, MayWait, Orderly, LineInOrder, line_in_order?}
 use Rattle.line.specs.Changes.{InForm, once_more, leave, choose, place_of, place_chosen, front, without}
-use Rattle.line.proofs.Numbers.{length_standing, getD_waiting, read_of_line}
+use Rattle.layout.specs.Layout.{pages}
+use Rattle.table.specs.Table.{counts_of, in_order?}
+use Rattle.line.proofs.Numbers.{length_standing, getD_waiting, read_of_line, length_in_form, count_in_form}
 use Rattle.line.proofs.Ordered.{orderly_at, in_form, line_of_orderly}
-use Rattle.line.proofs.Places.{waits_by_place, leave_by_place, withdraw_by_place, place_of_own, orderly_withdrawn, chosen_is, none_chosen}
+use Rattle.line.proofs.Places.{waits_by_place, leave_by_place, withdraw_by_place, place_of_own, orderly_withdrawn}
+use Rattle.line.proofs.Places.{chosen_is, chosen_fits, none_chosen}
 use Rattle.rules.specs.Call.{grant_level}
-use Rattle.rules.specs.Step.{Check, check, first}
-use Rattle.rules.specs.Value.{answer_of}
-use Rattle.rules.specs.declared.Answer.{Answer}
-use Rattle.rules.specs.declared.Answer.TheVariants.{Refused}
-use Rattle.rules.proofs.Checks.{Numbered}
-use Rattle.calls.proofs.Calling.{arguments}
+use Rattle.rules.specs.Step.{Check, check, first, holdings, step as table_step}
+use Rattle.rules.proofs.Checks.{Numbered, first_after_none, answer_is_first}
+use Rattle.rules.proofs.Repeats.{never_repeats}
+use Rattle.calls.proofs.Calling.{arguments, arguments_numbered}
 use Rattle.admission.specs.Call.{State, admit}
-use Rattle.admission.specs.Step.{Outcome, refused, reserve_checks, fits, admission, step}
+use Rattle.admission.specs.Step.{refused, reserve_checks, fits, admission, step}
 use Rattle.admission.specs.Value.{GivesAdmitted}
-use Rattle.admission.specs.Inner.{Unnamed}
 use Rattle.admission.specs.declared.Admitted.{Admitted}
-use Rattle.admission.proofs.Arguments.{Lengths, lengths_passed, ordered, disorder_decides, rest_decides}
+use Rattle.admission.proofs.Arguments.{Lengths, lengths_passed, ordered, disorder_decides, rest_decides, disorder_of_line}
+use Rattle.admission.proofs.Joining.{line_ordered}
+use Rattle.calls.specs.declared.change.Look.{Look}
+use Rattle.granting.specs.Inner.{Prepared}
+use Rattle.plans.specs.Plan.{plan_of}
+use Rattle.plans.specs.declared.Plan.{Plan}
+use Rattle.table.proofs.Order.{in_order_iff, in_order_fits}
+use Rattle.admission.specs.declared.Request.TheVariants.{Admit}
+use Rattle.std.specs.Prelude.{Result, Ok, Err, None}
+use Rattle.refusal.specs.declared.Refusal.{Refusal}
+use Rattle.refusal.specs.declared.Refusal.TheVariants.{NotInOrder}
 use Rattle.admission.proofs.Answering.{step_refused, step_accepted, admitted_same}
 
 -- ---- the levels that fit beside p pages of H
 
 module _ (p H : ℕ) (inside : p ≤ H) where
-  pub no_level_fits : H - p ≡ 0 → (l : ℕ) → ltb l 0 ≡ leb (p + 2 ^ l) H
-  no_level_fits none_free l = le-ltb l 0 (omega arith) ∙ sym (lt-leb (p + 2 ^ l) H (omega (arith, pow_pos l)))
-
   -- those up to the highest one bit of what is free
   pub levels_fit : ¬ (H - p ≡ 0) → (l : ℕ) → ltb l (depth (H - p) + 1) ≡ leb (p + 2 ^ l) H
   levels_fit free l = go (ltb l (depth (H - p) + 1)) refl
@@ -90,6 +97,24 @@ module _ (h : ℕ) (T L : List ℕ) (o : LineInOrder h T L) (k : ℕ) (p : k < w
         le-ltb h (at L k).level may_wait.level,
       )
 
+  pub place_bounds : (k < 64) × (length L ≡ 193)
+  place_bounds = let form = in_form h T L o in (omega (arith, p, count_in_form L form), length_in_form L form)
+
+  -- where its level fits, the table of a reserve in order grants it
+  pub chosen_granted : h ≤ 12 → length T ≡ 4096 → in_order? h T ≡ true → fits h T (at L k).level ≡ true
+      → (table_step h T (grant_level t (at L k).level 7)).answer ≡ 0
+  chosen_granted low long table room =
+      let c = grant_level t (at L k).level 7 in
+      let needed = pages (counts_of h T) + 2 ^ (at L k).level in
+      answer_is_first h T c
+      ∙ first_after_none (arguments h T c) (check 7 (not (in_order? h T)) ∷ holdings h T c) (arguments_numbered h T c) (chosen_arguments low long)
+      ∙ rw (
+        table,
+        never_repeats h T t (at L k).level may_wait.holds_none,
+        may_wait.holds_none,
+        le-ltb (2 ^ h) needed (leb-true needed (2 ^ h) room),
+      )
+
   in_line : waits t W ≡ true
   in_line = waits_by_place t W ∙ rw own_place (lt-ltb k (length W) inside)
 
@@ -121,32 +146,40 @@ module _ (h : ℕ) (T L : List ℕ) (o : LineInOrder h T L) (k : ℕ) (p : k < w
 
 -- ---- an admit that its arguments leave to the table and the line
 
-abbrev pub admit_arguments : ℕ → State → ℕ → List Check
+abbrev admit_arguments : ℕ → State → ℕ → List Check
 admit_arguments h S m = reserve_checks h S ++ check 3 (ltb m 4) ∷ []
 
 admit_numbered : (h : ℕ) (S : State) (m : ℕ) → Numbered (admit_arguments h S m)
 admit_numbered h S m = (omega arith, (omega arith, (omega arith, (omega arith, tt))))
 
 module _ (h : ℕ) (S : State) (m : ℕ) (passed : first (admit_arguments h S m) ≡ 0) where
-  pub admit_lengths : Lengths h (length S.table) (length S.line)
+  admit_lengths : Lengths h (length S.table) (length S.line)
   admit_lengths = lengths_passed h (length S.table) (length S.line) (check 3 (ltb m 4) ∷ []) passed
 
   module _ (e : ordered h S ≡ true) where
     admit_chooses : admission h S m (choose (fits h S.table) (waiting_in S.line)) ≡ step h S (admit m)
-    admit_chooses = step_accepted h S (admit m) 0 (sym (rest_decides h S (admit_arguments h S m) [] (admit_numbered h S m) passed e)) refl
+    admit_chooses = step_accepted h S (admit m) (sym (rest_decides h S (admit_arguments h S m) [] (admit_numbered h S m) passed e))
 
     -- n levels fit, and the one chosen among them stands at place k
     module _ (n : ℕ) (levels : (l : ℕ) → ltb l n ≡ fits h S.table l) (k : ℕ) (place : k ≡ place_chosen (λ l. ltb l n) (waiting_in S.line)) where
       chosen_by_levels : choose (λ l. ltb l n) (waiting_in S.line) ≡ choose (fits h S.table) (waiting_in S.line)
       chosen_by_levels = ap (λ (f : ℕ → Bool). choose f (waiting_in S.line)) (λ i l. levels l i)
 
-      pub nobody_chosen : waiting_count S.line ≤ k → refused 0 S ≡ step h S (admit m)
+      nobody_chosen : waiting_count S.line ≤ k → refused 0 S ≡ step h S (admit m)
       nobody_chosen behind =
           let W = waiting_in S.line in
           let none_there = (none_chosen (λ l. ltb l n) W (λ p. omega (arith, p, length_standing S.line 0 (waiting_count S.line)))).1 in
           ap (admission h S m) (sym none_there ∙ chosen_by_levels) ∙ admit_chooses
 
-      pub one_chosen : k < waiting_count S.line → admission h S m (some (at S.line k)) ≡ step h S (admit m)
+      one_fits : k < waiting_count S.line → fits h S.table (at S.line k).level ≡ true
+      one_fits p =
+          let W = waiting_in S.line in
+          let w = at S.line k in
+          let inside : place_chosen (λ l. ltb l n) W < length W = omega (arith, place, length_standing S.line 0 (waiting_count S.line)) in
+          let own : get_or W (place_chosen (λ l. ltb l n) W) w ≡ w = rw (← place, getD_waiting S.line k w p) in
+          sym (levels w.level) ∙ rw own at (chosen_fits (λ l. ltb l n) W inside w)
+
+      one_chosen : k < waiting_count S.line → admission h S m (some (at S.line k)) ≡ step h S (admit m)
       one_chosen p =
           let W = waiting_in S.line in
           let w = at S.line k in
@@ -156,14 +189,44 @@ module _ (h : ℕ) (S : State) (m : ℕ) (passed : first (admit_arguments h S m)
 
 -- ---- what an admit hands back
 
--- where it grants nobody
-pub unnamed_given : (k : ℕ) (S : State) (a : Answer) {o : Outcome} {r : Admitted} → a ≡ answer_of k 0 → Unnamed a r → refused k S ≡ o
-    → GivesAdmitted o r S.table S.line
-unnamed_given k S a e u same = admitted_same (record { answer = u.answer ∙ e; named = u.named; plan = u.plan; state = refl }) same
+module _ (h : ℕ) (S : State) (look : Look) (r : Prepared h S Admit look) where
+  lengths : Lengths h (length S.table) (length S.line)
+  lengths = admit_lengths h S 7 r.arguments
 
--- where it is refused with 7
-pub disorder_given : (h : ℕ) (S : State) (m : ℕ) → first (admit_arguments h S m) ≡ 0 → ordered h S ≡ false
-    → {r : Admitted} → Unnamed (Refused 7) r → GivesAdmitted (step h S (admit m)) r S.table S.line
-disorder_given h S m passed e u =
-    let number = disorder_decides h S (admit_arguments h S m) [] (admit_numbered h S m) passed e in
-    unnamed_given 7 S (Refused 7) refl u (step_refused h S (admit m) 7 number (λ z. omega arith))
+  -- refusal 7 for the line
+  pub disorder_given : line_in_order? h S.table S.line ≡ false → GivesAdmitted (step h S (admit 7)) (Err NotInOrder) S.table S.line
+  disorder_given e =
+      let out = disorder_decides h S (admit_arguments h S 7) [] (admit_numbered h S 7) r.arguments (disorder_of_line h S e) in
+      admitted_same (record { answer = refl; node = refl; named = refl; plan = refl; state = refl }) (step_refused h S (admit 7) NotInOrder out)
+
+  pub pages_fit : (h ≤ 12) × (pages look.counts.at ≤ 2 ^ h)
+  pages_fit =
+      let low = lengths.height in
+      (low, rw r.looked.counts (in_order_fits h S.table low ((in_order_iff h S.table low).0 r.looked.in_order)))
+
+  module _ (line : line_in_order? h S.table S.line ≡ true) where
+    both : ordered h S ≡ true
+    both = rw (r.looked.in_order, line)
+
+    pub line_to_admit : LineInOrder h S.table S.line
+    line_to_admit = line_ordered h S lengths.numbers both
+
+    -- n levels have room, and the one chosen among them stands at place k
+    module _ (n : ℕ) (levels : (l : ℕ) → ltb l n ≡ leb (pages look.counts.at + 2 ^ l) (2 ^ h))
+        (k : ℕ) (place : k ≡ place_chosen (λ l. ltb l n) (waiting_in S.line)) where
+      fitting : (l : ℕ) → ltb l n ≡ fits h S.table l
+      fitting l = levels l ∙ ap (λ (ds : List ℕ). leb (pages ds + 2 ^ l) (2 ^ h)) r.looked.counts
+
+      pub nobody_given : waiting_count S.line ≤ k → {p : Plan} → p ≡ plan_of []
+          → GivesAdmitted (step h S (admit 7)) (Ok (record { tenant = None; node = 0; plan = p })) S.table S.line
+      nobody_given behind no_moves =
+          admitted_same (record { answer = refl; node = refl; named = refl; plan = no_moves; state = refl })
+          (nobody_chosen h S 7 r.arguments both n fitting k place behind)
+
+      module _ (there : k < waiting_count S.line) where
+        pub fits_there : fits h S.table (at S.line k).level ≡ true
+        fits_there = one_fits h S 7 r.arguments both n fitting k place there
+
+        pub one_given : {q : Result Admitted Refusal} {T' L' : List ℕ} → GivesAdmitted (admission h S 7 (some (at S.line k))) q T' L'
+            → GivesAdmitted (step h S (admit 7)) q T' L'
+        one_given g = admitted_same g (one_chosen h S 7 r.arguments both n fitting k place there)

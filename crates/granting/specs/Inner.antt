@@ -7,15 +7,16 @@ use Rattle.line.specs.Changes.{barred}
 use Rattle.rules.specs.Call.{Call, tenant_of}
 use Rattle.rules.specs.Step.{Check, check, first, validity}
 use Rattle.calls.specs.Changes.{Looked}
+use Rattle.calls.specs.declared.change.Look.{Look}
 use Rattle.admission.specs.Call.{State}
 use Rattle.admission.specs.Step.{reserve_checks}
 use Rattle.admission.specs.Inner.{argument_checks}
 use Rattle.admission.specs.declared.Request.{Request}
 
--- a request whose arguments have passed, with seven entries, enough for any, on a table in order: cs are its counts, o has each node's owner
-pub record Prepared (h : ℕ) (S : State) (q : Request) (cs o : List ℕ) : Type 0 where
+-- a request whose arguments have passed, with seven entries, enough for any, on a table in order, of which a look is at hand
+pub record Prepared (h : ℕ) (S : State) (q : Request) (k : Look) : Type 0 where
   pub arguments : first (argument_checks h (length S.table) (length S.line) q 7) ≡ 0
-  pub looked : Looked h S.table cs o
+  pub looked : Looked h S.table k
 
 -- 18 and 10, as far as the line alone decides them, of a direct grant to tenant t, who holds nothing
 abbrev pub line_checks : ℕ → List Waiting → List Check

@@ -1,5 +1,6 @@
 // A direct grant behind a line: who grants so counts as last in line.
 ghost use Rattle.std.specs.Prelude.{◌≡◌, ◌++◌, ℕ, ◌<◌, length};
+ghost use Rattle.refusal.specs.Number.{number_in};
 ghost use Rattle.line.specs.Changes.{InForm};
 ghost use Rattle.rules.specs.Step.{first, validity};
 ghost use Rattle.rules.specs.Value.{call_of};
@@ -11,11 +12,9 @@ ghost use Rattle.admission.specs.Value.{lent, Gives};
 ghost use Rattle.granting.specs.Inner.{line_number, Unopposed};
 
 use admission::order::waits;
-use calls::change::settle;
-use layout::Counts;
-use refusal::{NO_ROOM, NOT_IN_ORDER, WAITS};
-use rules::{Call, Called, refused};
-use table::NODES;
+use calls::change::{Look, settle};
+use refusal::Refusal;
+use rules::{Call, Done};
 
 // Runs a grant of either kind on a table in order.
 pub fn grant(
@@ -23,42 +22,38 @@ pub fn grant(
     table: &mut [u16],
     line: &mut [u16],
     call: Call,
-    counts: Counts,
-    owners: &[u16; NODES],
-) -> Called
+    look: Look,
+) -> Result<Done, Refusal>
     requires asks { (l : ℕ) × Asks height (call_of call 7) l }
     requires arguments { first (reserve_checks height (lent table.old line.old) ++ validity height (call_of call 7)) ≡ 0 }
-    requires looked { Looked height table.old counts.at owners.now }
+    requires looked { Looked height table.old look }
     ensures { Gives (step height (lent table.old line.old) (direct (call_of call 7)))
         result table.new line.new }
 {
     if !line::in_order(height, table, line) {
-        return refused(NOT_IN_ORDER);
+        return Err(Refusal::NotInOrder);
     }
-    let number = line_refusal(table, line, call.tenant());
-    if number != 0 {
-        return refused(number);
-    }
-    give(height, table, line, call, counts, owners)
+    line_refusal(table, line, call.tenant())?;
+    give(height, table, line, call, look)
 }
 
-// The number of the first of refusals 18 and 10 that the line gives, or 0: 18 to one that waits, and 10 behind one that was passed as often as may
-// be. Who holds a block, the table answers.
-fn line_refusal(table: &[u16], line: &[u16], tenant: u16) -> u16
+// Refuses with the first of refusals 18 and 10 that the line gives: 18 to one that waits, and 10 behind one that was passed as often as may be. Who
+// holds a block, the table answers.
+fn line_refusal(table: &[u16], line: &[u16], tenant: u16) -> Result<(), Refusal>
     requires tenant { tenant < length table.now }
     requires form { InForm line.now }
-    ensures { result ≡ line_number (lent table.now line.now) tenant }
+    ensures { number_in result ≡ line_number (lent table.now line.now) tenant }
 {
     if table[tenant as usize] != 0 {
-        return 0;
+        return Ok(());
     }
     if waits(line, tenant) {
-        return WAITS;
+        return Err(Refusal::Waits);
     }
     if line::barred(line) {
-        return NO_ROOM;
+        return Err(Refusal::NoRoom);
     }
-    0
+    Ok(())
 }
 
 // Runs a grant that the line does not refuse, and passes everybody in line where it gives a block; a repeated one gives none.
@@ -67,26 +62,19 @@ fn give(
     table: &mut [u16],
     line: &mut [u16],
     call: Call,
-    counts: Counts,
-    owners: &[u16; NODES],
-) -> Called
+    look: Look,
+) -> Result<Done, Refusal>
     requires asks { (l : ℕ) × Asks height (call_of call 7) l }
-    requires looked { Looked height table.old counts.at owners.now }
+    requires looked { Looked height table.old look }
     requires unopposed { Unopposed height (lent table.old line.old) (call_of call 7) }
     ensures { Gives (step height (lent table.old line.old) (direct (call_of call 7)))
         result table.new line.new }
 {
-    let t = call.tenant() as usize;
-    let had = table[t];
-    let called = settle(height, table, call, counts, owners);
-    if had != 0 {
-        return called;
+    let had = table[call.tenant() as usize];
+    let done = settle(height, table, call, look)?;
+    if had == 0 {
+        let n = line[0] as usize;
+        line::pass(line, n);
     }
-    let answer = called.answer;
-    if answer.number() != 0 {
-        return called;
-    }
-    let n = line[0] as usize;
-    line::pass(line, n);
-    called
+    Ok(done)
 }

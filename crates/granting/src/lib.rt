@@ -9,11 +9,9 @@ ghost use Rattle.granting.specs.Inner.{Prepared};
 ghost use Rattle.admission.specs.declared.Request.TheVariants.{Direct};
 
 use admission::{Admitted, Request};
-use calls::change::settle;
-use layout::Counts;
-use line::Named;
-use refusal::NOT_IN_ORDER;
-use rules::{Answer, Call, Called};
+use calls::change::{Look, settle};
+use refusal::Refusal;
+use rules::{Call, Done};
 use table::NODES;
 
 mod chosen;
@@ -27,34 +25,30 @@ pub fn run(
     line: &mut [u16],
     entries: usize,
     request: Request,
-) -> Admitted
+) -> Result<Admitted, Refusal>
     ensures { GivesAdmitted (step height (lent table.old line.old) (requested request entries))
         result table.new line.new }
 {
-    let number = admission::refusals::refusal(height, table.len(), line.len(), entries, request);
-    if number != 0 {
-        return chosen::nobody(Answer::Refused { number });
-    }
+    admission::refusals::refusal(height, table.len(), line.len(), entries, request)?;
     let mut owners = [0u16; NODES];
     let found = survey::survey(height, table, &mut owners);
     if !found.in_order {
-        return chosen::nobody(Answer::Refused {
-            number: NOT_IN_ORDER,
-        });
+        return Err(Refusal::NotInOrder);
     }
-    let counts = found.counts;
+    let look = Look {
+        counts: found.counts,
+        owners: &owners,
+    };
     match request {
         Request::Direct { call } => {
-            let called = run_direct(height, table, line, call, counts, &owners);
-            let answer = called.answer;
-            let plan = called.plan;
-            Admitted {
-                answer,
-                named: Named::Nobody,
-                plan,
-            }
+            let done = run_direct(height, table, line, call, look)?;
+            Ok(Admitted {
+                tenant: None,
+                node: done.node,
+                plan: done.plan,
+            })
         }
-        Request::Admit => chosen::admit(height, table, line, counts, &owners),
+        Request::Admit => chosen::admit(height, table, line, look),
     }
 }
 
@@ -64,26 +58,16 @@ fn run_direct(
     table: &mut [u16],
     line: &mut [u16],
     call: Call,
-    counts: Counts,
-    owners: &[u16; NODES],
-) -> Called
-    requires { Prepared height (lent table.old line.old) (Direct call) counts.at owners.now }
+    look: Look,
+) -> Result<Done, Refusal>
+    requires { Prepared height (lent table.old line.old) (Direct call) look }
     ensures { Gives (step height (lent table.old line.old) (direct (call_of call 7)))
         result table.new line.new }
 {
     match call {
-        Call::GrantLevel {
-            tenant: _,
-            level: _,
-        } => grant::grant(height, table, line, call, counts, owners),
-        Call::GrantPages {
-            tenant: _,
-            pages: _,
-        } => grant::grant(height, table, line, call, counts, owners),
-        Call::Release { tenant: _ } => settle(height, table, call, counts, owners),
-        Call::Grow {
-            tenant: _,
-            level: _,
-        } => settle(height, table, call, counts, owners),
+        Call::GrantLevel { .. } | Call::GrantPages { .. } => {
+            grant::grant(height, table, line, call, look)
+        }
+        Call::Release { .. } | Call::Grow { .. } => settle(height, table, call, look),
     }
 }

@@ -5,8 +5,9 @@ use mathlib.Core.List.{List, [], ◌∷◌, ◌++◌}
 use mathlib.Core.Option.{Option, some, none}
 use Prim.Native.Nat.{ℕ, zero, suc, ◌<◌}
 use native.Mathlib.Omega.{arith}
-use borrow.Author.Tests.{eqb-false, ne_eqb}
+use borrow.Author.Tests.{eqb-false}
 use lib.Dec.{eqb}
+use Rattle.std.proofs.lemmas.Bool.Decides.{nat_tests}
 use lib.ListN.{length}
 use Rattle.table.specs.Table.{node_at}
 use Rattle.rules.specs.Call.{Call as Direct, grant_level, grant_pages, release, grow, tenant_of}
@@ -15,12 +16,11 @@ use Rattle.rules.specs.Demand.{releases, grows, Unchanged, SameFate}
 use Rattle.admission.specs.Call.{State, Call, direct, join, admit, withdraw}
 use Rattle.admission.specs.Step.{Outcome as Done, on_table, with_line, checks, accepted, unless, step, open_reserve}
 use Rattle.admission.proofs.Direct.{release_alone, growth_alone}
-use Rattle.boxes.specs.History.{History, Reply, reply, state_from, replies_from, state_after, replies_of, Book, book_after}
-use Rattle.boxes.specs.Demand.{Box, Boxes}
+use Rattle.boxes.specs.History.{History, Reply, reply, state_from, replies_from, state_after, Book, book_after}
+use Rattle.boxes.specs.Demand.{Box}
 use Rattle.boxes.proofs.Kept.{Kept, sound_state}
 use Rattle.boxes.proofs.Histories.{history_kept}
 use Rattle.boxes.proofs.Box.{box}
-use Rattle.boxes.proofs.Demand.{demand_3}
 use Rattle.admission.proofs.Demand.{demand_2}
 use Rattle.image.specs.Image.{image_of, lent_as, table_of, line_in, numbers_of}
 use Rattle.image.proofs.Images.{numbers_of_their_image}
@@ -32,6 +32,7 @@ use Rattle.histories.specs.Listing.{book_of}
 use Rattle.histories.specs.Bytes.{unnamed, naming, Exported, reserve_grant_level, reserve_grant_pages, reserve_release, reserve_grow}
 use Rattle.histories.specs.Bytes.{reserve_join, reserve_withdraw, reserve_admit, Led, opened, called, SameReport, no_room, room}
 use Rattle.histories.specs.Bytes.{Untouched, BytesOfBox, BytesDemand3}
+use Rattle.histories.proofs.Points.{boxes_of_histories}
 
 -- ---- one call more at the end
 
@@ -98,7 +99,7 @@ images_after o image line image' line' S p long kept e e' = record {
 -- a tenant's number is not that of nobody
 named_again : (o : Option ℕ) → ((t : ℕ) → o ≡ some t → t < 4096) → cond (eqb (tenant_number o) 65535) none (some (tenant_number o)) ≡ o
 named_again none below = refl
-named_again (some t) below = rw (ne_eqb t 65535 (λ e. omega (arith, e, below t refl)))
+named_again (some t) below = grind (arith, nat_tests, below t refl)
 
 -- a join and a withdrawal leave the table, and name nobody
 record Quiet (S : State) (o : Done) : Type 0 where
@@ -331,15 +332,11 @@ same_report N most o₁ o₂ r₁ r₂ image₁ image₂ list₁ list₂ image�
 same_report N most o₁ o₂ r₁ r₂ image₁ image₂ list₁ list₂ image₁' image₂' list₁' list₂' p₁ p₂ (SameFate.room a b m k n) =
     room (p₁.answer ∙ a) (p₂.answer ∙ b) (rw p₁.count m) (rw p₂.count k) n
 
-pub boxes_of_states : (h : ℕ) (H₁ H₂ : History h) {S₁ S₂ : State} {replies₁ replies₂ : List Reply} → S₁ ≡ state_after h H₁ → S₂ ≡ state_after h H₂
-    → replies₁ ≡ replies_of h H₁ → replies₂ ≡ replies_of h H₂ → Boxes h S₁ S₂ (book_of h H₁.calls replies₁) (book_of h H₂.calls replies₂)
-boxes_of_states h H₁ H₂ s₁ s₂ a₁ a₂ = rw (s₁, s₂, a₁, a₂) (demand_3 h H₁ H₂)
-
 pub demand_3_of_bytes : BytesDemand3
 demand_3_of_bytes h image₁ line₁ image₂ line₂ calls₁ calls₂ replies₁ replies₂ led₁ led₂ =
     let F₁ = follows led₁ in
     let F₂ = follows led₂ in
-    let both = boxes_of_states h (history F₁) (history F₂) (state_is F₁.images) (state_is F₂.images) F₁.replied F₂.replied in
+    let both = boxes_of_histories h (history F₁) (history F₂) (state_is F₁.images) (state_is F₂.images) F₁.replied F₂.replied in
     record {
       boxes = both;
       bytes_one = bytes_of_box h image₁ line₁ calls₁ replies₁ (book_of h calls₁ replies₁) F₁ both.one;

@@ -4,10 +4,10 @@ use mathlib.Core.List.{List, [], ◌∷◌}
 use Prim.Native.Nat.{ℕ, ◌<◌}
 use native.Mathlib.Omega.{arith}
 use borrow.Author.Tests.{ne_eqb}
+use Rattle.std.specs.Prelude.{Some, Ok}
 use Rattle.journal.specs.declared.Record.{Record}
-use Rattle.journal.specs.declared.Read.{Read}
 use Rattle.journal.specs.Format.{kind_of}
-use Rattle.journal.specs.Reader.{read_at}
+use Rattle.journal.specs.Reader.{found_record, read_at}
 use Rattle.journal.specs.Journal.{CanStand}
 use Rattle.rules.specs.Call.{grant_level, grant_pages, release, grow}
 use Rattle.admission.specs.Call.{State as Reserve, Call, direct, join, admit, withdraw}
@@ -40,7 +40,7 @@ calling (Record.Withdraw tenant) at q s = (withdraw tenant, record { calls = ref
 -- ---- its turn
 
 -- a record whose outcome does not answer 1 has its line
-pub turn_of_record : (journal : List ℕ) (s : State) (r : Record) (next : ℕ) → read_at journal s.offset ≡ Read.Record r next
+pub turn_of_record : (journal : List ℕ) (s : State) (r : Record) (next : ℕ) → read_at journal s.offset ≡ Ok (Some (found_record r next))
     → ¬ ((outcome_of s.height s.reserve r).answer ≡ 1) → turn journal s ≡ listed s r next (outcome_of s.height s.reserve r)
 turn_of_record journal s r next e other =
-    turn_at journal s (Read.Record r next) e ∙ rw (ne_eqb (outcome_of s.height s.reserve r).answer 1 other)
+    turn_at journal s (Ok (Some (found_record r next))) e ∙ rw (ne_eqb (outcome_of s.height s.reserve r).answer 1 other)

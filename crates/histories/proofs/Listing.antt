@@ -8,9 +8,9 @@ use native.Mathlib.Decide.{dec_le}
 use native.Mathlib.Omega.{arith}
 use borrow.Author.Tests.{le-ltb, eq-eqb}
 use lib.ListN.{length, length-replicate}
+use Rattle.std.specs.Prelude.{Some, None, Ok, Err}
 use Rattle.journal.specs.declared.Record.{Record}
-use Rattle.journal.specs.declared.Read.{Read}
-use Rattle.journal.specs.Reader.{read_at}
+use Rattle.journal.specs.Reader.{found_record, Read, read_at}
 use Rattle.journal.specs.Format.{kind_of, who}
 use Rattle.journal.specs.Journal.{CanStand, Reading}
 use Rattle.journal.proofs.Theorems.{read_can_stand, open_at_start, next_offset}
@@ -42,7 +42,8 @@ abbrev standing : ℕ → ℕ → Reserve → ℕ → State
 standing at n S h = record { offset = at; ordinal = n; height = h; reserve = S }
 
 module _ (journal : List ℕ) (h : ℕ) (low : h ≤ 12) where
-  call_lists : (at next n : ℕ) (S : Reserve) (r : Record) (c : Call) (rest : List ℕ) → Calling r c → read_at journal at ≡ Read.Record r next
+  call_lists : (at next n : ℕ) (S : Reserve) (r : Record) (c : Call) (rest : List ℕ) → Calling r c
+      → read_at journal at ≡ Ok (Some (found_record r next))
       → Lists journal (standing next (n + 1) (step h S c).state h) rest
       → Lists journal (standing at n S h) (line_with (n + 1) r (step h S c) ++ rest)
   call_lists at next n S r c rest k e l =
@@ -97,10 +98,10 @@ shows_nothing_read : (journal : List ℕ) (last : Read) → read_at journal 0 �
 shows_nothing_read journal last e off t =
     Shows.nothing_read (listing_is journal _ (lists_last journal start (turn_of start last) (turn_at journal start last e) off) ∙ t)
 
-module _ (journal : List ℕ) (h next : ℕ) (rs : List Record) (last : Read) (e : read_at journal 0 ≡ Read.Record (Record.Open h) next)
+module _ (journal : List ℕ) (h next : ℕ) (rs : List Record) (last : Read) (e : read_at journal 0 ≡ Ok (Some (found_record (Record.Open h) next)))
     (more : Reading journal next rs last) where
   stops_at_open : 12 < h → turn journal start ≡ stopped start 0 1
-  stops_at_open high = turn_at journal start (Read.Record (Record.Open h) next) e ∙ rw (opening_too_high h vacant high)
+  stops_at_open high = turn_at journal start (Ok (Some (found_record (Record.Open h) next))) e ∙ rw (opening_too_high h vacant high)
 
   shows_too_high : 12 < h → Shows journal (Record.Open h ∷ rs) last
   shows_too_high high =
@@ -129,15 +130,15 @@ module _ (journal : List ℕ) (h next : ℕ) (rs : List Record) (last : Read) (e
   shows_open (yes low) = shows_history low
   shows_open (no high) = shows_too_high (omega arith)
 
-shows_first : (journal : List ℕ) (r : Record) (next : ℕ) (rs : List Record) (last : Read) → read_at journal 0 ≡ Read.Record r next
+shows_first : (journal : List ℕ) (r : Record) (next : ℕ) (rs : List Record) (last : Read) → read_at journal 0 ≡ Ok (Some (found_record r next))
     → CanStand (kind_of r) 0 → Reading journal next rs last → Shows journal (r ∷ rs) last
 shows_first journal r next rs last e s more =
     let is = open_at_start r s in
-    let found : read_at journal 0 ≡ Read.Record (Record.Open (who r)) next = e ∙ ap (λ (x : Record). Read.Record x next) is in
+    let found = subst (λ (x : Record). read_at journal 0 ≡ Ok (Some (found_record x next))) is e in
     subst (λ (x : Record). Shows journal (x ∷ rs) last) (sym is) (shows_open journal (who r) next rs last found more (dec_le (who r) 12))
 
 pub listing_is_history : ListingIsHistory
-listing_is_history journal rs last (Reading.ends e) = shows_nothing_read journal Read.End e refl refl
-listing_is_history journal rs last (Reading.refused {n = n} {o = o} e) = shows_nothing_read journal (Read.Refused n o) e refl refl
+listing_is_history journal rs last (Reading.ends e) = shows_nothing_read journal (Ok None) e refl refl
+listing_is_history journal rs last (Reading.refused {refusal = r} e) = shows_nothing_read journal (Err r) e refl refl
 listing_is_history journal rs last (Reading.record_then {next = next} {r = r} {rs = rs'} e more) =
     shows_first journal r next rs' last e (read_can_stand journal 0 r next e) more

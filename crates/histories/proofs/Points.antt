@@ -27,14 +27,7 @@ calls_append [] b = refl
 calls_append (r ∷ a) b = rw (calls_append a b, append_assoc)
 
 one_call_at_most : (r : Record) → length (call_of r) ≤ 1
-one_call_at_most (Record.Open height) = omega arith
-one_call_at_most (Record.GrantLevel tenant level) = omega arith
-one_call_at_most (Record.GrantPages tenant pages) = omega arith
-one_call_at_most (Record.Release tenant) = omega arith
-one_call_at_most (Record.Grow tenant level) = omega arith
-one_call_at_most (Record.Join tenant level) = omega arith
-one_call_at_most Record.Admit = omega arith
-one_call_at_most (Record.Withdraw tenant) = omega arith
+one_call_at_most r = grind arith
 
 pub no_more_calls : (rs : List Record) → length (calls_of rs) ≤ length rs
 unfolding calls_of

@@ -73,7 +73,8 @@ pub record BytesOfBox (h : ℕ) (image line : List ℕ) (B : Book) : Type 0 wher
   -- after the next call they stand for what `step` leaves, and its reply is that of `step`
   pub next_state : (c : Call) (r : Reply) (image' line' : List ℕ) → Exported h image line c r image' line'
       → state_in image' line' ≡ (step h (state_in image line) c).state
-  pub next_reply : (c : Call) (r : Reply) (image' line' : List ℕ) → Exported h image line c r image' line' → r ≡ reply (step h (state_in image line) c)
+  pub next_reply : (c : Call) (r : Reply) (image' line' : List ℕ) → Exported h image line c r image' line'
+      → r ≡ reply (step h (state_in image line) c)
   -- a grant of the level that the book has for its tenant, which is a repeated one, names the tenant's node and leaves every byte
   pub repeated_grants : (call : ℕ → Direct) (list image' line' list' : List ℕ) (r : Outcome)
       → CalledBehind h call image line list r image' line' list'

@@ -1,8 +1,9 @@
 -- A listing shows a history: the answers, nodes, named tenants and moves in its lines are those of `step` along the calls of its records.
-use Rattle.std.specs.Prelude.{◌≡◌, List, [], ◌∷◌, ◌++◌, map, ℕ, ◌+◌, ◌≤◌, ◌<◌, length}
+use Rattle.std.specs.Prelude.{◌≡◌, List, [], ◌∷◌, ◌++◌, map, Ok, Err, ℕ, ◌+◌, ◌≤◌, ◌<◌, length}
 use Rattle.std.proofs.Math.Option.{none}
+use Rattle.refusal.specs.Number.{number_of}
 use Rattle.journal.specs.declared.Record.{Record}
-use Rattle.journal.specs.declared.Read.{Read}
+use Rattle.journal.specs.Reader.{Read}
 use Rattle.journal.specs.Journal.{Reading}
 use Rattle.rules.specs.Call.{grant_level, grant_pages, release, grow}
 use Rattle.admission.specs.Call.{State, Call, direct, join, admit, withdraw}
@@ -69,9 +70,8 @@ lines_after n (r ∷ rs) (o ∷ os) = line_with (n + 1) r o ++ lines_after (n + 
 
 -- what follows them: nothing at the end of the journal, else the line of the refusal; a reading does not end with a record
 abbrev pub last_line : Read → List ℕ
-last_line Read.End = []
-last_line (Read.Refused number offset) = stop_line offset number
-last_line (Read.Record r next) = []
+last_line (Ok read) = []
+last_line (Err e) = stop_line e.offset (number_of e.refusal)
 
 -- what the listing of a journal is, by the records read in it and the answer that ends them
 pub data Shows (journal : List ℕ) : List Record → Read → Type 0 where

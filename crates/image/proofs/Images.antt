@@ -62,7 +62,8 @@ module _ (done s : List ℕ) (at : ℕ) (e : length done ≡ at) where
 
 pub encoded_more : (image₀ nodes image : List ℕ) (i : ℕ) → image ≡ image_of (take i nodes) ++ drop (2 * i) image₀
     → i < length nodes → 2 * i + 2 ≤ length image₀
-    → set (set image (2 * i) (low (get_or nodes i 0))) (2 * i + 1) (high (get_or nodes i 0)) ≡ image_of (take (i + 1) nodes) ++ drop (2 * (i + 1)) image₀
+    → set (set image (2 * i) (low (get_or nodes i 0))) (2 * i + 1) (high (get_or nodes i 0))
+    ≡ image_of (take (i + 1) nodes) ++ drop (2 * (i + 1)) image₀
 unfolding image_of
 encoded_more image₀ nodes image i inv p q =
     let done = image_of (take i nodes) in

@@ -22,12 +22,10 @@ pub fn decode(image: &[u8], numbers: &mut [u16]) -> usize
     if image.len() != 2 * numbers.len() {
         return 0;
     }
-    let mut i = 0;
-    while i < numbers.len() {
-        numbers[i] = word(image[2 * i], image[2 * i + 1]);
-        i += 1;
+    for (i, number) in numbers.iter_mut().enumerate() {
+        *number = word(image[2 * i], image[2 * i + 1]);
     }
-    i
+    numbers.len()
 }
 
 // Writes the image of numbers.
@@ -35,10 +33,8 @@ pub fn encode(numbers: &[u16], image: &mut [u8])
     requires { length image.old ≡ 2 * length numbers.now }
     ensures { image.new ≡ image_of numbers.now }
 {
-    let mut i = 0;
-    while i < numbers.len() {
-        put_word(image, 2 * i, numbers[i]);
-        i += 1;
+    for (i, number) in numbers.iter().enumerate() {
+        put_word(image, 2 * i, *number);
     }
 }
 
@@ -58,11 +54,7 @@ pub fn put_moves(plan: Plan, list: &mut [u8])
     requires { (plan.n ≤ 7) × (8 * plan.n ≤ length list.old) }
     ensures { list.new ≡ move_bytes (moves_in plan) ++ drop (8 * length (moves_in plan)) list.old }
 {
-    let n = plan.n;
-    let moves = plan.moves;
-    let mut k = 0;
-    while k < n {
-        put_move(list, MOVE_BYTES * k, moves[k]);
-        k += 1;
+    for (k, m) in plan.moves[..plan.n].iter().enumerate() {
+        put_move(list, MOVE_BYTES * k, *m);
     }
 }

@@ -2,7 +2,8 @@
 // writes records and prints the bytes. The file stdout holds what documents 01 and 02 say of them.
 #![tactic(auto)]
 
-use journal::{Read, Record, Written};
+use journal::{Found, Record, RefusedAt};
+use std::io;
 
 fn main(rt: HostRuntime) {
     list(
@@ -31,23 +32,28 @@ fn kinds(rt: &HostRuntime) {
 // What ends a reading: no journal, another kind first, unknown kinds, a record of each kind that has a body cut off, a second
 // open, whole and cut off. Then an admit, which has none, as the last byte.
 fn ends(rt: &HostRuntime) {
-    list(rt, b"");
-    list(rt, b"\x02\x00\x00\x01");
-    list(rt, b"\x01\x05\x00\x00");
-    list(rt, b"\x01\x05\x06");
-    list(rt, b"\x01\x05\x07");
-    list(rt, b"\x01\x05\x08");
-    list(rt, b"\x01\x05\x0c");
-    list(rt, b"\x01");
-    list(rt, b"\x01\x05\x02\x00\x00");
-    list(rt, b"\x01\x05\x03\x00\x00\x00");
-    list(rt, b"\x01\x05\x04\x00");
-    list(rt, b"\x01\x05\x05\x00\x00");
-    list(rt, b"\x01\x05\x09\x00\x00");
-    list(rt, b"\x01\x05\x0b\x00");
-    list(rt, b"\x01\x05\x01\x05");
-    list(rt, b"\x01\x05\x01");
-    list(rt, b"\x01\x05\x0a");
+    let journals = [
+        b"".as_slice(),
+        b"\x02\x00\x00\x01",
+        b"\x01\x05\x00\x00",
+        b"\x01\x05\x06",
+        b"\x01\x05\x07",
+        b"\x01\x05\x08",
+        b"\x01\x05\x0c",
+        b"\x01",
+        b"\x01\x05\x02\x00\x00",
+        b"\x01\x05\x03\x00\x00\x00",
+        b"\x01\x05\x04\x00",
+        b"\x01\x05\x05\x00\x00",
+        b"\x01\x05\x09\x00\x00",
+        b"\x01\x05\x0b\x00",
+        b"\x01\x05\x01\x05",
+        b"\x01\x05\x01",
+        b"\x01\x05\x0a",
+    ];
+    for journal in journals {
+        list(rt, journal);
+    }
 }
 
 // The most bytes that a journal has, and one more, with and without an open.
@@ -65,199 +71,91 @@ fn limits(rt: &HostRuntime) {
 // Offsets at a record, inside one, at the end and past it; and past the end of journals that 11 and 16 refuse.
 fn offsets(rt: &HostRuntime) {
     let journal = b"\x01\x02\x04\x07\x00";
-    show(rt, journal, 0);
-    show(rt, journal, 1);
-    show(rt, journal, 2);
-    show(rt, journal, 3);
-    show(rt, journal, 4);
-    show(rt, journal, 5);
-    show(rt, journal, 6);
-    show(rt, journal, 18446744073709551615);
+    for offset in 0..7 {
+        show(rt, journal, offset);
+    }
+    show(rt, journal, usize::MAX);
     show(rt, b"", 1);
     show(rt, &[1u8; 65537], 65538);
 }
 
 // A record of each kind in five bytes; then one that just fits in four, and one that does not.
 fn writes(rt: &HostRuntime) {
-    write_in_5(rt, Record::Open { height: 12 });
-    write_in_5(
-        rt,
-        Record::GrantLevel {
-            tenant: 258,
-            level: 3,
-        },
-    );
-    write_in_5(
-        rt,
-        Record::GrantPages {
-            tenant: 258,
-            pages: 772,
-        },
-    );
-    write_in_5(rt, Record::Release { tenant: 4095 });
-    write_in_5(
-        rt,
+    let level_3 = Record::GrantLevel {
+        tenant: 258,
+        level: 3,
+    };
+    let pages_772 = Record::GrantPages {
+        tenant: 258,
+        pages: 772,
+    };
+    let one_of_each = [
+        Record::Open { height: 12 },
+        level_3,
+        pages_772,
+        Record::Release { tenant: 4095 },
         Record::Grow {
             tenant: 258,
             level: 3,
         },
-    );
-    write_in_5(
-        rt,
         Record::Join {
             tenant: 258,
             level: 3,
         },
-    );
-    write_in_5(rt, Record::Admit);
-    write_in_5(rt, Record::Withdraw { tenant: 4095 });
-    write_in_4(
-        rt,
-        Record::GrantLevel {
-            tenant: 258,
-            level: 3,
-        },
-    );
-    write_in_4(
-        rt,
-        Record::GrantPages {
-            tenant: 258,
-            pages: 772,
-        },
-    );
+        Record::Admit,
+        Record::Withdraw { tenant: 4095 },
+    ];
+    for rec in one_of_each {
+        write_in(rt, &mut [9; 5], rec);
+    }
+    write_in(rt, &mut [9; 4], level_3);
+    write_in(rt, &mut [9; 4], pages_772);
 }
 
 // The records of a journal, each with its offset, and what ends the reading.
 fn list(rt: &HostRuntime, journal: &[u8]) {
-    let mut offset: usize = 0;
-    loop {
-        match journal::read_at(journal, offset) {
-            Read::Record { record, next } => {
-                print_record(rt, offset, record);
-                offset = next;
-            }
-            Read::End => {
-                print_end(rt, offset);
-                return;
-            }
-            Read::Refused { number, offset: at } => {
-                print_refused(rt, at, number);
-                return;
-            }
-        }
+    let mut offset = 0;
+    while let Ok(Some(found)) = journal::read_at(journal, offset) {
+        show(rt, journal, offset);
+        offset = found.next;
     }
+    show(rt, journal, offset);
 }
 
-// What stands at one offset.
+// What stands at one offset. What cannot be written is missing there, and nothing else is said of it.
 fn show(rt: &HostRuntime, journal: &[u8], offset: usize) {
-    match journal::read_at(journal, offset) {
-        Read::Record { record, next: _ } => print_record(rt, offset, record),
-        Read::End => print_end(rt, offset),
-        Read::Refused { number, offset: at } => print_refused(rt, at, number),
-    }
+    let _ = match journal::read_at(journal, offset) {
+        Ok(Some(Found { record, .. })) => print_record(rt, offset, record),
+        Ok(None) => println!(rt; "{offset} end"),
+        Err(RefusedAt { refusal, offset }) => println!(rt; "! {offset} {}", u16::from(refusal)),
+    };
 }
 
-fn print_end(rt: &HostRuntime, offset: usize) {
-    print(rt, offset);
-    text(rt, b" end\n");
-}
-
-fn print_refused(rt: &HostRuntime, offset: usize, number: u16) {
-    text(rt, b"! ");
-    print(rt, offset);
-    text(rt, b" ");
-    print(rt, number as usize);
-    text(rt, b"\n");
-}
-
-fn print_record(rt: &HostRuntime, offset: usize, rec: Record) {
-    print(rt, offset);
+fn print_record(rt: &HostRuntime, offset: usize, rec: Record) -> io::Result<()> {
     match rec {
-        Record::Open { height } => {
-            text(rt, b" open ");
-            print(rt, height as usize);
-        }
-        Record::GrantLevel { tenant, level } => {
-            text(rt, b" grant ");
-            print(rt, tenant as usize);
-            text(rt, b" level ");
-            print(rt, level as usize);
-        }
-        Record::GrantPages { tenant, pages } => {
-            text(rt, b" grant ");
-            print(rt, tenant as usize);
-            text(rt, b" pages ");
-            print(rt, pages as usize);
-        }
-        Record::Release { tenant } => {
-            text(rt, b" release ");
-            print(rt, tenant as usize);
-        }
-        Record::Grow { tenant, level } => {
-            text(rt, b" grow ");
-            print(rt, tenant as usize);
-            text(rt, b" level ");
-            print(rt, level as usize);
-        }
-        Record::Join { tenant, level } => {
-            text(rt, b" join ");
-            print(rt, tenant as usize);
-            text(rt, b" level ");
-            print(rt, level as usize);
-        }
-        Record::Admit => {
-            text(rt, b" admit");
-        }
-        Record::Withdraw { tenant } => {
-            text(rt, b" withdraw ");
-            print(rt, tenant as usize);
-        }
-    }
-    text(rt, b"\n");
-}
-
-fn write_in_5(rt: &HostRuntime, rec: Record) {
-    let mut out = [9u8; 5];
-    let done = journal::write(rec, &mut out);
-    print_written(rt, done, &out);
-}
-
-fn write_in_4(rt: &HostRuntime, rec: Record) {
-    let mut out = [9u8; 4];
-    let done = journal::write(rec, &mut out);
-    print_written(rt, done, &out);
-}
-
-fn print_written(rt: &HostRuntime, done: Written, out: &[u8]) {
-    match done {
-        Written::Done { length } => {
-            print(rt, length);
-        }
-        Written::Refused { number } => {
-            text(rt, b"! ");
-            print(rt, number as usize);
-        }
-    }
-    print_bytes(rt, out);
-    text(rt, b"\n");
-}
-
-fn print_bytes(rt: &HostRuntime, bytes: &[u8]) {
-    for byte in bytes {
-        print_byte(rt, *byte);
+        Record::Open { height } => println!(rt; "{offset} open {height}"),
+        Record::GrantLevel { tenant, level } => println!(rt;
+            "{offset} grant {tenant} level {level}"
+        ),
+        Record::GrantPages { tenant, pages } => println!(rt;
+            "{offset} grant {tenant} pages {pages}"
+        ),
+        Record::Release { tenant } => println!(rt; "{offset} release {tenant}"),
+        Record::Grow { tenant, level } => println!(rt; "{offset} grow {tenant} level {level}"),
+        Record::Join { tenant, level } => println!(rt; "{offset} join {tenant} level {level}"),
+        Record::Admit => println!(rt; "{offset} admit"),
+        Record::Withdraw { tenant } => println!(rt; "{offset} withdraw {tenant}"),
     }
 }
 
-fn print_byte(rt: &HostRuntime, byte: u8) {
-    text(rt, b" ");
-    print(rt, byte as usize);
-}
-
-// Writes to standard output. What cannot be written is missing there, and nothing else is said of it.
-fn text(rt: &HostRuntime, bytes: &[u8]) {
-    let _ = rt.write_all(bytes);
-}
-
-fn print(rt: &HostRuntime, n: usize) {
-    let _ = rt.print(n);
+// Writes a record into lent bytes, and prints how many it takes, or the refusal, and then the bytes.
+fn write_in(rt: &HostRuntime, out: &mut [u8], rec: Record) {
+    let _ = match journal::write(rec, out) {
+        Ok(length) => print!(rt; "{length}"),
+        Err(refusal) => print!(rt; "! {}", u16::from(refusal)),
+    };
+    for byte in out {
+        let _ = print!(rt; " {byte}");
+    }
+    let _ = println!(rt);
 }

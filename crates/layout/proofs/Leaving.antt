@@ -96,7 +96,8 @@ lost_cons h x xs B n e = go (same_block x (block_of h n)) refl
         either_left (lost_at h x B n) (lost h xs B n)
         (passes_only_first (eqb (node h x) n) (B x) at (λ q. w.not_held (ap B (sym x_is) ∙ q)))
     go false p =
-        either_right (lost_at h x B n) (lost h xs B n) (ap (λ (t : Bool). (tree && (t || among xs (block_of h n))) && not (nodes_of h B n)) (sym p) ∙ e)
+        either_right (lost_at h x B n) (lost h xs B n)
+        (ap (λ (t : Bool). (tree && (t || among xs (block_of h n))) && not (nodes_of h B n)) (sym p) ∙ e)
       where
         tree : Bool
         tree = ltb 0 n && ltb n (2 ^ suc h)
@@ -113,11 +114,13 @@ lost_at_most h (x ∷ xs) B =
       lost_at_most h xs B,
     )
 
-pub grant_leaves_at_most_3 : (h : ℕ) (cs : List ℕ) (x : ℕ) → x < length cs → leaving h (layout_set h cs) (layout_set h (one_block_more cs x)) ≤ most_by_grant
+pub grant_leaves_at_most_3 : (h : ℕ) (cs : List ℕ) (x : ℕ) → x < length cs
+    → leaving h (layout_set h cs) (layout_set h (one_block_more cs x)) ≤ most_by_grant
 unfolding leaving
 grant_leaves_at_most_3 h cs x q = omega (arith, lost_at_most h (layout cs) (among (layout (one_block_more cs x))), grant_moves_at_most_3 cs x q)
 
-pub release_leaves_at_most_4 : (h : ℕ) (cs : List ℕ) (x : ℕ) → x < length cs → leaving h (layout_set h (one_block_more cs x)) (layout_set h cs) ≤ most_by_release
+pub release_leaves_at_most_4 : (h : ℕ) (cs : List ℕ) (x : ℕ) → x < length cs
+    → leaving h (layout_set h (one_block_more cs x)) (layout_set h cs) ≤ most_by_release
 unfolding leaving
 release_leaves_at_most_4 h cs x q = omega (arith, lost_at_most h (layout (one_block_more cs x)) (among (layout cs)), release_moves_at_most_4 cs x q)
 

@@ -10,13 +10,14 @@ use lib.ListN.{length, get_or, set, take, drop, replicate, length-set, drop_of_l
 use lib.Seq.{drop-cons, take-suc-set, take_all, append_snoc}
 use lib.Pow.{pow_pos, pow_mono}
 use Rattle.tree.specs.Block.{Block}
-use Rattle.layout.specs.Layout.{State, full, start, running, place, rise, pages_from, pages}
+use Rattle.layout.specs.Layout.{State, full, lone, start, running, place, rise, pages_from, pages}
 use Rattle.layout.specs.Runs.{starts_from, runs_from, starts, runs}
 use Rattle.layout.specs.Rows.{no_index, lones, rows_of}
 use Rattle.layout.specs.declared.Layout.{Layout}
-use Rattle.layout.specs.Climb.{mark}
+use Rattle.layout.specs.Climb.{Markable, mark}
 use Rattle.layout.proofs.Bounds.{power_le_4096}
 use Rattle.layout.proofs.States.{start_place, running_le, double_pages, Rises, full_rises, lone_rises, lone_settles, rises}
+use Rattle.layout.proofs.States.{AtLevel, full_at, lone_at, place_at, next_at}
 use Rattle.layout.proofs.Counting.{pages_from_level}
 use Rattle.layout.proofs.Writing.{written, written_lones, length_mark}
 
@@ -39,7 +40,9 @@ rise_room l (lone_settles {v = v} {w = w} e) =
 
 -- The lists ss, ns and xs before level l, in state s, on the way to the rows of the counts cs
 pub record Climbed (cs ss ns xs : List ℕ) (s : State) (l : ℕ) : Type 0 where
+  pub counts_long : length cs ≡ 13
   pub inside : l ≤ 13
+  pub stands : AtLevel l s
   pub starts_long : length ss ≡ 13
   pub runs_long : length ns ≡ 13
   pub lones_long : length xs ≡ 13
@@ -54,7 +57,9 @@ unfolding starts runs pages
 climbed_none {cs} e f is_empty =
     rw is_empty
     record {
+      counts_long = e;
       inside = omega arith;
+      stands = full_at;
       starts_long = refl;
       runs_long = refl;
       lones_long = refl;
@@ -69,18 +74,20 @@ row_next : (ss : List ℕ) (l a : ℕ) (rest whole : List ℕ) → l < length ss
 row_next ss l a rest whole h e = rw (take-suc-set ss l a h, append_snoc) e
 
 -- A turn in state s: a and n are written at l, ys is the list of lone places with the level's blocks placed, and u the state one level up.
-pub climbed_next : {cs ss ns xs ys : List ℕ} {s t u : State} {l a n : ℕ} → length cs ≡ 13 → l < 13 → Climbed cs ss ns xs s l
+pub climbed_next : {cs ss ns xs ys : List ℕ} {s t u : State} {l a n : ℕ} → l < 13 → Climbed cs ss ns xs s l
     → start s ≡ a → n ≡ running s (get_or cs l 0) → t ≡ place l s (get_or cs l 0) → ys ≡ mark t xs → u ≡ rise t
     → Climbed cs (set ss l a) (set ns l n) ys u (l + 1)
 unfolding written
-climbed_next {cs} {ss} {ns} {xs} {ys} {s} {t} {u} {l} {a} {n} e h p is_start is_run is_placed is_marked is_risen =
+climbed_next {cs} {ss} {ns} {xs} {ys} {s} {t} {u} {l} {a} {n} h p is_start is_run is_placed is_marked is_risen =
     let c : ℕ = get_or cs l 0 in
     let d : drop l cs ≡ c ∷ drop (suc l) cs = drop-cons cs l 0 (omega arith) in
     let above : List ℕ = drop (suc l) cs in
     let next : State = rise (place l s c) in
     rw (← is_start, is_run, is_marked, is_risen, is_placed, add-one)
     record {
+      counts_long = p.counts_long;
       inside = h;
+      stands = next_at l c p.stands;
       starts_long = length-set ss l (start s) ∙ p.starts_long;
       runs_long = length-set ns l (running s c) ∙ p.runs_long;
       lones_long = length_mark (place l s c) xs ∙ p.lones_long;
@@ -96,24 +103,34 @@ climbed_next {cs} {ss} {ns} {xs} {ys} {s} {t} {u} {l} {a} {n} e h p is_start is_
 
 -- What a turn computes on its way is at most 8,192.
 
-placed_pages : {cs ss ns xs : List ℕ} {s : State} {l : ℕ} → length cs ≡ 13 → l < 13 → Climbed cs ss ns xs s l
+placed_pages : {cs ss ns xs : List ℕ} {s : State} {l : ℕ} → l < 13 → Climbed cs ss ns xs s l
     → (start s + get_or cs l 0) * 2 ^ l ≤ 8192
-placed_pages {cs} {l = l} e h p = omega (arith, p.room, pages_from_level cs l (omega arith), power_le_4096 l (omega arith))
+placed_pages {cs} {l = l} h p = omega (arith, p.room, pages_from_level cs l (omega arith), power_le_4096 l (omega arith))
 
-pub placed_fits : {cs ss ns xs : List ℕ} {s : State} {l : ℕ} → length cs ≡ 13 → l < 13 → Climbed cs ss ns xs s l → start s + get_or cs l 0 ≤ 8192
-placed_fits {cs} {s = s} {l = l} e h p = le_trans (le-mul_of_pos_right (start s + get_or cs l 0) (pow_pos l)) (placed_pages e h p)
+pub placed_fits : {cs ss ns xs : List ℕ} {s : State} {l : ℕ} → l < 13 → Climbed cs ss ns xs s l → start s + get_or cs l 0 ≤ 8192
+placed_fits {cs} {s = s} {l = l} h p = le_trans (le-mul_of_pos_right (start s + get_or cs l 0) (pow_pos l)) (placed_pages h p)
 
-pub lone_fits : {cs ss ns xs : List ℕ} {s : State} {l : ℕ} → length cs ≡ 13 → l < 13 → Climbed cs ss ns xs s l
+lone_fits : {cs ss ns xs : List ℕ} {s : State} {l : ℕ} → l < 13 → Climbed cs ss ns xs s l
     → (k : ℕ) → k ≤ l → start (place l s (get_or cs l 0)) * 2 ^ k ≤ 8192
-lone_fits {cs} {s = s} {l = l} e h p k q =
+lone_fits {cs} {s = s} {l = l} h p k q =
     let c : ℕ = get_or cs l 0 in
-    le_trans (mul-le-mul_left (start (place l s c)) (pow_mono q)) (omega (arith, place_room l s c, placed_pages e h p))
+    le_trans (mul-le-mul_left (start (place l s c)) (pow_mono q)) (omega (arith, place_room l s c, placed_pages h p))
+
+pub placed_markable : {cs ss ns xs : List ℕ} {s t : State} {l : ℕ} → l < 13 → Climbed cs ss ns xs s l
+    → t ≡ place l s (get_or cs l 0) → Markable t
+placed_markable {cs} {s = s} {l = l} h p is_placed =
+    let c : ℕ = get_or cs l 0 in
+    rw is_placed (go (place l s c) (place_at l c p.stands) (lone_fits h p))
+  where
+    go : (t : State) → AtLevel l t → ((k : ℕ) → k ≤ l → start t * 2 ^ k ≤ 8192) → Markable t
+    go (full u) full_at fits = tt
+    go (lone v j k) (lone_at q) fits = (omega arith, omega arith, omega (arith, fits k (omega arith)))
 
 -- after the last level the rows are whole
-pub climbed_all : {cs ss ns xs : List ℕ} {s : State} {l : ℕ} → length cs ≡ 13 → 13 ≤ l → Climbed cs ss ns xs s l
+pub climbed_all : {cs ss ns xs : List ℕ} {s : State} {l : ℕ} → 13 ≤ l → Climbed cs ss ns xs s l
     → ◌≡◌ {A = Layout} (record { start = ss; run = ns; lone = xs }) (rows_of cs)
 unfolding written
-climbed_all {cs} {ss} {ns} {xs} {s} {l} e h p =
+climbed_all {cs} {ss} {ns} {xs} {s} {l} h p =
     let d : drop l cs ≡ [] = drop_of_length-le cs {i = l} (omega arith) in
     let a : ss ≡ starts cs = rw (d, append-nil, take_all l ss (omega (arith, p.starts_long))) at p.starts_so_far in
     let b : ns ≡ runs cs = rw (d, append-nil, take_all l ns (omega (arith, p.runs_long))) at p.runs_so_far in

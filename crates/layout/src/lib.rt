@@ -6,7 +6,7 @@ ghost use Rattle.layout.specs.Layout.{pages, running, place, rise};
 ghost use Rattle.layout.specs.Change.{one_block_fewer};
 ghost use Rattle.layout.specs.Counts.{more};
 ghost use Rattle.layout.specs.Rows.{rows_of, in_row, kth_index, kth_node, expected_node};
-ghost use Rattle.layout.specs.Climb.{state_of, mark};
+ghost use Rattle.layout.specs.Climb.{state_of, Markable, mark};
 
 // What stands for an index, or for a level of a lone block, where there is none.
 pub const NONE: u16 = 65_535;
@@ -48,14 +48,9 @@ impl Counts {
     {
         let mut at = self.at;
         let l = level as usize;
-        if LEVELS <= l {
-            return self;
+        if l < LEVELS {
+            at[l] = at[l].saturating_add(1);
         }
-        let c = at[l];
-        if c == 65_535 {
-            return self;
-        }
-        at[l] = c + 1;
         Counts { at }
     }
 
@@ -65,14 +60,9 @@ impl Counts {
     {
         let mut at = self.at;
         let l = level as usize;
-        if LEVELS <= l {
-            return self;
+        if l < LEVELS {
+            at[l] = at[l].saturating_sub(1);
         }
-        let c = at[l];
-        if c == 0 {
-            return self;
-        }
-        at[l] = c - 1;
         Counts { at }
     }
 
@@ -80,14 +70,11 @@ impl Counts {
     pub fn total(self) -> u32
         ensures { result ≡ pages self.at }
     {
-        let at = self.at;
         let mut sum: u32 = 0;
         let mut size: u32 = 1;
-        let mut level: usize = 0;
-        while level < LEVELS {
-            sum += at[level] as u32 * size;
+        for count in self.at {
+            sum += u32::from(count) * size;
             size *= 2;
-            level += 1;
         }
         sum
     }
@@ -97,24 +84,19 @@ impl Counts {
         requires { pages self.at ≤ 4096 }
         ensures { result ≡ rows_of self.at }
     {
-        let at = self.at;
         let mut start = [0u16; LEVELS];
         let mut run = [0u16; LEVELS];
         let mut lone = [NONE; LEVELS];
         let mut s = Climb {
             before: 0,
-            level: NONE,
-            down: 0,
+            lone: None,
         };
-        let mut l: usize = 0;
-        while l < LEVELS {
-            let c = at[l];
-            start[l] = s.before;
-            run[l] = s.running(c);
-            s = s.placed(l as u16, c);
+        for (level, count) in self.at.iter().enumerate() {
+            start[level] = s.before;
+            run[level] = s.running(*count);
+            s = s.placed(level as u16, *count);
             s.mark_in(&mut lone);
             s = s.risen();
-            l += 1;
         }
         Layout { start, run, lone }
     }
@@ -124,12 +106,7 @@ impl Counts {
     pub fn expected(self, height: u16, level: u16, k: u16) -> u16
         ensures { result ≡ expected_node self.at height level k }
     {
-        if MAX_HEIGHT < height {
-            return 0;
-        }
-        let room = power(height) as u32;
-        let total = self.total();
-        if room < total {
+        if MAX_HEIGHT < height || u32::from(power(height)) < self.total() {
             return 0;
         }
         self.layout().node(height, level, k)
@@ -141,18 +118,12 @@ impl Layout {
     fn node(self, height: u16, level: u16, k: u16) -> u16
         ensures { result ≡ kth_node self height level k }
     {
-        if MAX_HEIGHT < height {
-            return 0;
-        }
-        if height < level {
+        if MAX_HEIGHT < height || height < level {
             return 0;
         }
         let l = level as usize;
-        let starts = self.start;
-        let runs = self.run;
-        let lones = self.lone;
-        let i = kth_index(starts[l], runs[l], lones[l], k);
-        let nodes = power(height - level) as u32;
+        let i = kth_index(self.start[l], self.run[l], self.lone[l], k);
+        let nodes = u32::from(power(height - level));
         if nodes <= i {
             return 0;
         }
@@ -164,13 +135,7 @@ impl Layout {
 pub fn in_row(start: u16, run: u16, lone: u16, i: u16) -> bool
     ensures { result ≡ in_row start run lone i }
 {
-    if i < start {
-        return lone == i;
-    }
-    if i - start < run {
-        return true;
-    }
-    lone == i
+    (start <= i && i - start < run) || lone == i
 }
 
 // The k-th of the `run` indices from `start` on and then `lone`; NONE past these.
@@ -178,12 +143,12 @@ fn kth_index(start: u16, run: u16, lone: u16, k: u16) -> u32
     ensures { result ≡ kth_index start run lone k }
 {
     if k < run {
-        return start as u32 + k as u32;
+        u32::from(start) + u32::from(k)
+    } else if k == run {
+        u32::from(lone)
+    } else {
+        u32::from(NONE)
     }
-    if k == run {
-        return lone as u32;
-    }
-    NONE as u32
 }
 
 // 2 to the power e.
@@ -194,13 +159,19 @@ pub fn power(e: u16) -> u16
     1 << e
 }
 
-// What the levels below leave to a level: the first `before` subtrees are in use, and, unless `level` is NONE, the next one too, in which
-// a block of level `level` stands alone, `down` levels below.
+// A block of level `level` that stands alone in a subtree, `down` levels below its root.
+#[derive(Clone, Copy)]
+struct Lone {
+    level: u16,
+    down: u16,
+}
+
+// What the levels below leave to a level: the first `before` subtrees are in use, and, where there is a lone block, the next one too, in which
+// it stands.
 #[derive(Clone, Copy)]
 struct Climb {
     before: u16,
-    level: u16,
-    down: u16,
+    lone: Option<Lone>,
 }
 
 impl Climb {
@@ -208,24 +179,22 @@ impl Climb {
     fn running(self, count: u16) -> u16
         ensures { result ≡ running (state_of self) count }
     {
-        if self.level == NONE {
-            if 0 < count {
-                return count - 1;
-            }
+        if self.lone.is_some() {
+            count
+        } else {
+            count.saturating_sub(1)
         }
-        count
     }
 
     // The state with the blocks of level l placed.
     fn placed(self, l: u16, count: u16) -> Climb
-        requires { (self.before + count < 2 ^ 16) × (l < 13) }
-        ensures { (state_of result ≡ place l (state_of self) count) × (result.down ≤ self.down) }
+        requires { self.before + count < 2 ^ 16 }
+        ensures { state_of result ≡ place l (state_of self) count }
     {
-        if self.level != NONE {
+        if self.lone.is_some() {
             return Climb {
                 before: self.before + count,
-                level: self.level,
-                down: self.down,
+                ..self
             };
         }
         if count == 0 {
@@ -233,48 +202,38 @@ impl Climb {
         }
         Climb {
             before: self.before + (count - 1),
-            level: l,
-            down: 0,
+            lone: Some(Lone { level: l, down: 0 }),
         }
     }
 
     // Writes the lone block's place so far among the lone places.
     fn mark_in(self, lone: &mut [u16; LEVELS])
-        requires { (self.down ≤ 12) × (self.before * 2 ^ self.down < 2 ^ 16) × (length lone.old ≡ 13) }
+        requires state { Markable (state_of self) }
+        requires levels { length lone.old ≡ 13 }
         ensures { lone.new ≡ mark (state_of self) lone.old }
     {
-        let level = self.level as usize;
-        if LEVELS <= level {
-            return;
+        if let Some(block) = self.lone {
+            lone[block.level as usize] = self.before * power(block.down);
         }
-        lone[level] = self.before * power(self.down);
     }
 
     // The state one level up.
     fn risen(self) -> Climb
-        requires { self.down ≤ 12 }
-        ensures { (state_of result ≡ rise (state_of self)) × (result.down ≤ self.down + 1) }
+        requires { Markable (state_of self) }
+        ensures { state_of result ≡ rise (state_of self) }
     {
-        let half = self.before / 2;
-        let rest = self.before % 2;
-        if self.level == NONE {
-            return Climb {
-                before: half + rest,
-                level: NONE,
-                down: 0,
-            };
-        }
-        if rest == 0 {
-            return Climb {
-                before: half,
-                level: self.level,
-                down: self.down + 1,
-            };
-        }
-        Climb {
-            before: half + 1,
-            level: NONE,
-            down: 0,
+        match self.lone {
+            Some(block) if self.before % 2 == 0 => Climb {
+                before: self.before / 2,
+                lone: Some(Lone {
+                    down: block.down + 1,
+                    ..block
+                }),
+            },
+            _ => Climb {
+                before: self.before.div_ceil(2),
+                lone: None,
+            },
         }
     }
 }

@@ -4,55 +4,23 @@
 
 use layout::Counts;
 
-// Writes to standard output. What cannot be written is missing there, and nothing else is said of it.
-fn text(rt: &HostRuntime, bytes: &[u8]) {
-    let _ = rt.write_all(bytes);
-}
-
-fn number(rt: &HostRuntime, n: u16) {
-    let _ = rt.print(n);
-}
-
-fn gap(rt: &HostRuntime) {
-    text(rt, b" ");
-}
-
-// The nodes of one level, or nothing.
-fn level(rt: &HostRuntime, height: u16, counts: Counts, level: u16, many: u16) {
-    for k in 0..many {
-        gap(rt);
-        number(rt, counts.expected(height, level, k));
-    }
-}
-
-fn four(a: u16, b: u16, c: u16, d: u16) -> Counts {
-    Counts {
+// One line: height, counts and nodes, or "no room" where the pages are too many. What cannot be written is missing on standard output, and nothing
+// else is said of it.
+fn line(rt: &HostRuntime, height: u16, [a, b, c, d]: [u16; 4]) {
+    let counts = Counts {
         at: [a, b, c, d, 0, 0, 0, 0, 0, 0, 0, 0, 0],
-    }
-}
-
-// One line: height, counts and nodes, or "no room" where the pages are too many.
-fn line(rt: &HostRuntime, height: u16, a: u16, b: u16, c: u16, d: u16) {
-    let counts = four(a, b, c, d);
-    number(rt, height);
-    text(rt, b": ");
-    number(rt, a);
-    gap(rt);
-    number(rt, b);
-    gap(rt);
-    number(rt, c);
-    gap(rt);
-    number(rt, d);
-    text(rt, b":");
+    };
+    let _ = print!(rt; "{height}: {a} {b} {c} {d}:");
     if counts.total() > room(height) {
-        text(rt, b" no room\n");
+        let _ = println!(rt; " no room");
         return;
     }
-    level(rt, height, counts, 0, a);
-    level(rt, height, counts, 1, b);
-    level(rt, height, counts, 2, c);
-    level(rt, height, counts, 3, d);
-    text(rt, b"\n");
+    for level in 0..4 {
+        for k in 0..counts.at[level as usize] {
+            let _ = print!(rt; " {}", counts.expected(height, level, k));
+        }
+    }
+    let _ = println!(rt);
 }
 
 // The pages of a reserve of this height: 8, 32, or 1 for any other.
@@ -64,20 +32,27 @@ fn room(height: u16) -> u32 {
     }
 }
 
+// The lines: the height, and the counts of levels 0 to 3.
+const LINES: [(u16, [u16; 4]); 15] = [
+    (3, [0, 0, 0, 0]),
+    (3, [1, 0, 0, 0]),
+    (3, [1, 1, 0, 0]),
+    (3, [2, 1, 0, 0]),
+    (3, [3, 1, 0, 0]),
+    (3, [1, 0, 1, 0]),
+    (3, [2, 0, 1, 0]),
+    (3, [1, 1, 1, 0]),
+    (3, [0, 1, 1, 0]),
+    (3, [1, 2, 0, 0]),
+    (3, [0, 0, 0, 1]),
+    (0, [1, 0, 0, 0]),
+    (3, [1, 2, 1, 0]),
+    (5, [1, 1, 2, 1]),
+    (5, [1, 2, 2, 1]),
+];
+
 fn main(rt: HostRuntime) {
-    line(&rt, 3, 0, 0, 0, 0);
-    line(&rt, 3, 1, 0, 0, 0);
-    line(&rt, 3, 1, 1, 0, 0);
-    line(&rt, 3, 2, 1, 0, 0);
-    line(&rt, 3, 3, 1, 0, 0);
-    line(&rt, 3, 1, 0, 1, 0);
-    line(&rt, 3, 2, 0, 1, 0);
-    line(&rt, 3, 1, 1, 1, 0);
-    line(&rt, 3, 0, 1, 1, 0);
-    line(&rt, 3, 1, 2, 0, 0);
-    line(&rt, 3, 0, 0, 0, 1);
-    line(&rt, 0, 1, 0, 0, 0);
-    line(&rt, 3, 1, 2, 1, 0);
-    line(&rt, 5, 1, 1, 2, 1);
-    line(&rt, 5, 1, 2, 2, 1);
+    for (height, counts) in LINES {
+        line(&rt, height, counts);
+    }
 }

@@ -1,7 +1,7 @@
 -- What one turn of a loop over the places does to what is asked of those from place i on.
-use mathlib.Core.Path.{◌≡◌, ap, ◌∙◌}
+use mathlib.Core.Path.{◌≡◌, sym, ap, ◌∙◌}
 use mathlib.Core.Bool.{Bool, true, false}
-use mathlib.Core.List.{List}
+use mathlib.Core.List.{List, ◌∷◌}
 use Prim.Native.Nat.{ℕ, ◌+◌, ◌-◌, ◌≤◌, ◌<◌}
 use native.Mathlib.Nat.{zero-add, sub-zero}
 use native.Mathlib.Omega.{arith}
@@ -42,46 +42,49 @@ module _ (L : List ℕ) (n : ℕ) where
   unfolding orderly?
   orderly_none h T = rw (standing_none L n)
 
--- ---- at place i
+-- ---- at place i, where w stands
 
-module _ (L : List ℕ) (n i : ℕ) (p : i < n) where
-  pub place_here : (t : ℕ) → (at L i).tenant ≡ t → i + place_of t (from_place L n i) ≡ i
+module _ (L : List ℕ) (n i : ℕ) (p : i < n) {w : Waiting} (read : w ≡ at L i) where
+  here : from_place L n i ≡ w ∷ from_place L n (i + 1)
+  here = standing_more L i n p ∙ ap (λ (v : Waiting). v ∷ from_place L n (i + 1)) (sym read)
+
+  pub place_here : (t : ℕ) → w.tenant ≡ t → i + place_of t (from_place L n i) ≡ i
   unfolding place_of
-  place_here t e = rw (standing_more L i n p, eq-eqb (at L i).tenant t e) (omega arith)
+  place_here t e = rw (here, eq-eqb w.tenant t e) (omega arith)
 
-  pub place_further : (t : ℕ) → ¬ ((at L i).tenant ≡ t) → i + place_of t (from_place L n i) ≡ i + 1 + place_of t (from_place L n (i + 1))
+  pub place_further : (t : ℕ) → ¬ (w.tenant ≡ t) → i + place_of t (from_place L n i) ≡ i + 1 + place_of t (from_place L n (i + 1))
   unfolding place_of
-  place_further t d = rw (standing_more L i n p, ne_eqb (at L i).tenant t d) (omega arith)
+  place_further t d = rw (here, ne_eqb w.tenant t d) (omega arith)
 
-  pub barred_here : 8 ≤ (at L i).passed → barred (from_place L n i) ≡ true
+  pub barred_here : 8 ≤ w.passed → barred (from_place L n i) ≡ true
   unfolding barred
-  barred_here q = rw (standing_more L i n p, le-leb 8 (at L i).passed q)
+  barred_here q = rw (here, le-leb 8 w.passed q)
 
-  pub barred_further : (at L i).passed < 8 → barred (from_place L n i) ≡ barred (from_place L n (i + 1))
+  pub barred_further : w.passed < 8 → barred (from_place L n i) ≡ barred (from_place L n (i + 1))
   unfolding barred
-  barred_further q = rw (standing_more L i n p, lt-leb 8 (at L i).passed q)
+  barred_further q = rw (here, lt-leb 8 w.passed q)
 
-  pub chosen_here : (fits : ℕ → Bool) → fits (at L i).level ≡ true → i + place_chosen fits (from_place L n i) ≡ i
+  pub chosen_here : (fits : ℕ → Bool) → fits w.level ≡ true → i + place_chosen fits (from_place L n i) ≡ i
   unfolding place_chosen
-  chosen_here fits e = rw (standing_more L i n p, e) (omega arith)
+  chosen_here fits e = rw (here, e) (omega arith)
 
-  pub chosen_barred : (fits : ℕ → Bool) → fits (at L i).level ≡ false → 8 ≤ (at L i).passed → i + place_chosen fits (from_place L n i) ≡ n
+  pub chosen_barred : (fits : ℕ → Bool) → fits w.level ≡ false → 8 ≤ w.passed → i + place_chosen fits (from_place L n i) ≡ n
   unfolding place_chosen
   chosen_barred fits e q =
-      rw (standing_more L i n p, e, le-leb 8 (at L i).passed q) (omega (arith, length_standing L (i + 1) (n - (i + 1))))
+      rw (here, e, le-leb 8 w.passed q) (omega (arith, length_standing L (i + 1) (n - (i + 1))))
 
-  pub chosen_further : (fits : ℕ → Bool) → fits (at L i).level ≡ false → (at L i).passed < 8
+  pub chosen_further : (fits : ℕ → Bool) → fits w.level ≡ false → w.passed < 8
       → i + place_chosen fits (from_place L n i) ≡ i + 1 + place_chosen fits (from_place L n (i + 1))
   unfolding place_chosen
-  chosen_further fits e q = rw (standing_more L i n p, e, lt-leb 8 (at L i).passed q) (omega arith)
+  chosen_further fits e q = rw (here, e, lt-leb 8 w.passed q) (omega arith)
 
   module _ (h : ℕ) (T : List ℕ) where
-    pub disorder_here : may_wait? h T (at L i) ≡ false → orderly? h T (from_place L n i) ≡ false
+    pub disorder_here : may_wait? h T w ≡ false → orderly? h T (from_place L n i) ≡ false
     unfolding orderly?
-    disorder_here e = rw (standing_more L i n p, e)
+    disorder_here e = rw (here, e)
 
     -- the one at place i may wait, and r is the place of its tenant among those behind it
-    module _ (may : may_wait? h T (at L i) ≡ true) (r : ℕ) (found : r ≡ i + 1 + place_of (at L i).tenant (from_place L n (i + 1))) where
+    module _ (may : may_wait? h T w ≡ true) (r : ℕ) (found : r ≡ i + 1 + place_of w.tenant (from_place L n (i + 1))) where
       abbrev behind : List Waiting
       behind = from_place L n (i + 1)
 
@@ -91,13 +94,13 @@ module _ (L : List ℕ) (n i : ℕ) (p : i < n) where
       pub disorder_behind : r < n → orderly? h T (from_place L n i) ≡ false
       unfolding orderly?
       disorder_behind q =
-          let t : ℕ = (at L i).tenant in
+          let t : ℕ = w.tenant in
           let twice = waits_by_place t behind ∙ lt-ltb (place_of t behind) (length behind) (omega (arith, length_behind)) in
-          rw (standing_more L i n p, may, twice)
+          rw (here, may, twice)
 
       pub orderly_further : n ≤ r → orderly? h T (from_place L n i) ≡ orderly? h T behind
       unfolding orderly?
       orderly_further q =
-          let t : ℕ = (at L i).tenant in
+          let t : ℕ = w.tenant in
           let once = waits_by_place t behind ∙ le-ltb (place_of t behind) (length behind) (omega (arith, length_behind)) in
-          rw (standing_more L i n p, may, once)
+          rw (here, may, once)

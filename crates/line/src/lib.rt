@@ -2,8 +2,8 @@
 // zeros behind them.
 #![tactic(auto)]
 
-ghost use Rattle.std.specs.Prelude.{◌≡◌, ℕ, ◌+◌, ◌-◌, ◌≤◌, ◌<◌, [], ◌∷◌, ◌++◌, ltb, length, take, drop};
-ghost use Rattle.line.specs.Line.{line_of, at, standing, waiting_count, waiting_in};
+ghost use Rattle.std.specs.Prelude.{◌≡◌, ℕ, ◌+◌, ◌-◌, ◌*◌, ◌≤◌, ◌<◌, [], ◌∷◌, ◌++◌, ltb, length, take, drop};
+ghost use Rattle.line.specs.Line.{line_of, at, standing, waiting_count, waiting_in, waiting_of};
 ghost use Rattle.line.specs.Order.{may_wait?, orderly?, line_in_order?};
 ghost use Rattle.line.specs.Changes.{InForm, barred as Changes·barred, joined, once_more, place_of, place_chosen, front, without};
 
@@ -21,11 +21,24 @@ const LIMIT: u16 = 8;
 // The largest tenant number.
 const LAST_TENANT: u16 = 4095;
 
-// The tenant that an admit granted, or nobody.
+// One who waits: its number, the level that it waits for, and its passed count.
 #[derive(Clone, Copy)]
-pub enum Named {
-    Nobody,
-    Tenant { tenant: u16 },
+struct Waiting {
+    tenant: u16,
+    level: u16,
+    passed: u16,
+}
+
+// The one at place i.
+fn waiting_at(line: &[u16], i: usize) -> Waiting
+    requires { 3 * i + 3 < length line.now }
+    ensures { waiting_of result ≡ at line.now i }
+{
+    Waiting {
+        tenant: line[3 * i + 1],
+        level: line[3 * i + 2],
+        passed: line[3 * i + 3],
+    }
 }
 
 // Whether the numbers are a line in order, over the table.
@@ -46,136 +59,122 @@ pub fn in_order(height: u16, table: &[u16], line: &[u16]) -> bool
 
 // Whether each of the first n may wait, and no tenant stands there twice.
 fn orderly(height: u16, table: &[u16], line: &[u16], n: usize) -> bool
-    requires { (length table.now ≡ 4096) × (length line.now ≡ 193) × (n ≤ 64) }
+    requires { (length table.now ≡ 4096) × (3 * n < length line.now) × (n ≤ 64) }
     ensures { result ≡ orderly? height table.now (standing line.now 0 n) }
 {
-    let mut i = 0;
-    while i < n {
-        if !may_wait(height, table, line, i) {
+    for i in 0..n {
+        let w = waiting_at(line, i);
+        if !may_wait(height, table, w) {
             return false;
         }
-        let tenant = line[3 * i + 1];
-        if place_from(line, i + 1, n, tenant) < n {
+        if place_from(line, i + 1, n, w.tenant) < n {
             return false;
         }
-        i += 1;
     }
     true
 }
 
-// Whether the one at place i may wait: not passed too often, a level of the reserve, a tenant's number, and nothing held.
-fn may_wait(height: u16, table: &[u16], line: &[u16], i: usize) -> bool
-    requires { (length table.now ≡ 4096) × (length line.now ≡ 193) × (i < 64) }
-    ensures { result ≡ may_wait? height table.now (at line.now i) }
+// Whether one may wait: not passed too often, a level of the reserve, a tenant's number, and nothing held.
+fn may_wait(height: u16, table: &[u16], w: Waiting) -> bool
+    requires { length table.now ≡ 4096 }
+    ensures { result ≡ may_wait? height table.now (waiting_of w) }
 {
-    let tenant = line[3 * i + 1];
-    let level = line[3 * i + 2];
-    let passed = line[3 * i + 3];
-    if LIMIT < passed {
-        return false;
-    }
-    if height < level {
-        return false;
-    }
-    if LAST_TENANT < tenant {
-        return false;
-    }
-    table[tenant as usize] == 0
+    w.passed <= LIMIT
+        && w.level <= height
+        && w.tenant <= LAST_TENANT
+        && table[usize::from(w.tenant)] == 0
 }
 
 // The place of a tenant, from a place on and below n; n if it stands at none.
 fn place_from(line: &[u16], from: usize, n: usize, tenant: u16) -> usize
-    requires { (length line.now ≡ 193) × (from ≤ n) × (n ≤ 64) }
+    requires { (3 * n < length line.now) × (from ≤ n) × (n ≤ 64) }
     ensures { result ≡ from + place_of tenant (standing line.now from (n - from)) }
 {
-    let mut i = from;
-    while i < n {
-        if line[3 * i + 1] == tenant {
+    for i in from..n {
+        if waiting_at(line, i).tenant == tenant {
             return i;
         }
-        i += 1;
     }
     n
 }
 
+// The functions below are handed over lent numbers, and their signatures are promised (docs/PROOFS.md): so `InForm` stands at each.
+
 // The place of a tenant in line; the place behind the last if it is not in line.
+#[tactic(auto, using(crate::proofs::Numbers::length_in_form, crate::proofs::Numbers::count_in_form))]
 pub fn place_of(line: &[u16], tenant: u16) -> usize
     requires { InForm line.now }
     ensures { result ≡ place_of tenant (waiting_in line.now) }
 {
-    let n = line[0] as usize;
-    place_from(line, 0, n, tenant)
+    place_from(line, 0, line[0] as usize, tenant)
 }
 
 // Whether somebody in line was passed as often as may be.
+#[tactic(auto, using(crate::proofs::Numbers::length_in_form, crate::proofs::Numbers::count_in_form))]
 pub fn barred(line: &[u16]) -> bool
     requires { InForm line.now }
     ensures { result ≡ Changes·barred (waiting_in line.now) }
 {
     let n = line[0] as usize;
-    let mut i = 0;
-    while i < n {
-        if LIMIT <= line[3 * i + 3] {
+    for i in 0..n {
+        if LIMIT <= waiting_at(line, i).passed {
             return true;
         }
-        i += 1;
     }
     false
 }
 
 // The place of the first from the front whose level is one of the lowest so many, but of nobody behind one that was passed as often as may be; the
 // place behind the last if there is none.
+#[tactic(auto, using(crate::proofs::Numbers::length_in_form, crate::proofs::Numbers::count_in_form))]
 pub fn choose(line: &[u16], levels: u16) -> usize
     requires { InForm line.now }
     ensures { result ≡ place_chosen (λ (l : ℕ). ltb l levels) (waiting_in line.now) }
 {
     let n = line[0] as usize;
-    let mut place = 0;
-    while place < n {
-        if line[3 * place + 2] < levels {
+    for place in 0..n {
+        let w = waiting_at(line, place);
+        if w.level < levels {
             return place;
         }
-        if LIMIT <= line[3 * place + 3] {
+        if LIMIT <= w.passed {
             return n;
         }
-        place += 1;
     }
     n
 }
 
 // Passes the first n once more.
+#[tactic(auto, using(crate::proofs::Numbers::length_in_form, crate::proofs::Numbers::count_in_form))]
 pub fn pass(line: &mut [u16], n: usize)
     requires { InForm line.old × (n ≤ waiting_count line.old) }
     ensures { line.new ≡ line_of (front once_more n (waiting_in line.old)) }
 {
-    let mut i = 0;
-    while i < n {
-        let passed = line[3 * i + 3];
-        line[3 * i + 3] = passed + 1;
-        i += 1;
+    for i in 0..n {
+        line[3 * i + 3] += 1;
     }
 }
 
 // Puts a tenant at the end of a line that has a place left.
+#[tactic(auto, using(crate::proofs::Numbers::length_in_form, crate::proofs::Numbers::count_in_form))]
 pub fn join(line: &mut [u16], tenant: u16, level: u16)
     requires { InForm line.old × (waiting_count line.old < 64) }
     ensures { line.new ≡ line_of (joined tenant level (waiting_in line.old)) }
 {
-    let count = line[0];
-    let n = count as usize;
-    line[0] = count + 1;
+    let n = line[0] as usize;
+    line[0] += 1;
     line[3 * n + 1] = tenant;
     line[3 * n + 2] = level;
 }
 
 // Takes the one at a place out of the line.
+#[tactic(auto, using(crate::proofs::Numbers::length_in_form, crate::proofs::Numbers::count_in_form))]
 pub fn take_out(line: &mut [u16], place: usize)
     requires { InForm line.old × (place < waiting_count line.old) }
     ensures { line.new ≡ line_of (without place (waiting_in line.old)) }
 {
     close_gap(line, 3 * place + 1);
-    let count = line[0];
-    line[0] = count - 1;
+    line[0] -= 1;
 }
 
 // Moves the numbers behind the three from an index on up by three, and puts zeros at the end.
@@ -183,12 +182,6 @@ fn close_gap(line: &mut [u16], from: usize)
     requires { (length line.old ≡ 193) × (from + 3 ≤ 193) }
     ensures { line.new ≡ take from line.old ++ drop (from + 3) line.old ++ 0 ∷ 0 ∷ 0 ∷ [] }
 {
-    let mut i = from;
-    while i + 3 < NUMBERS {
-        line[i] = line[i + 3];
-        i += 1;
-    }
-    line[i] = 0;
-    line[i + 1] = 0;
-    line[i + 2] = 0;
+    line.copy_within(from + 3..NUMBERS, from);
+    line[NUMBERS - 3..NUMBERS].fill(0);
 }

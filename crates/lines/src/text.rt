@@ -11,7 +11,7 @@ use table::Move;
 // The most bytes of a text: the longest line has fewer.
 pub const LONGEST: usize = 192;
 
-// At most 192 bytes: the first `n` of the buffer. The others are 0.
+// At most 192 bytes: the first `n` of the buffer. The others are 0. The buffer is part of the text, since the library has no heap.
 #[derive(Drop)]
 pub struct Text {
     pub n: usize,
@@ -30,14 +30,13 @@ impl Text {
     }
 
     // The text with one byte more.
-    pub fn push(self, byte: u8) -> Text
+    pub fn push(mut self, byte: u8) -> Text
         requires { self.n + 1 ≤ longest }
         ensures { Grown self (byte ∷ []) 1 result }
     {
-        let at = self.n;
-        let mut bytes = self.bytes;
-        bytes[at] = byte;
-        Text { n: at + 1, bytes }
+        self.bytes[self.n] = byte;
+        self.n += 1;
+        self
     }
 
     // The text with a number in decimal at its end.
@@ -46,9 +45,9 @@ impl Text {
         ensures { Grown self (Decimal·decimal number) 20 result }
     {
         if number < 10 {
-            return self.push(48 + (number as u8));
+            return self.push(b'0' + number as u8);
         }
-        self.decimal(number / 10).push(48 + ((number % 10) as u8))
+        self.decimal(number / 10).push(b'0' + (number % 10) as u8)
     }
 
     // The same with a number of 16 bits.
@@ -98,14 +97,9 @@ impl Text {
         requires { (self.n ≤ longest) × (at + self.n ≤ length out.old) }
         ensures { (result ≡ at + self.n) × (out.new ≡ paste out.old at self.bytes self.n) }
     {
-        let n = self.n;
-        let bytes = self.bytes;
-        let mut i = 0;
-        while i < n {
-            out[at + i] = bytes[i];
-            i += 1;
-        }
-        at + n
+        let end = at + self.n;
+        out[at..end].copy_from_slice(&self.bytes[..self.n]);
+        end
     }
 }
 
@@ -113,8 +107,5 @@ impl Text {
 fn separator_of(staged: u16) -> u8
     ensures { result ≡ separator staged }
 {
-    if staged == 0 {
-        return b'>';
-    }
-    b'='
+    if staged == 0 { b'>' } else { b'=' }
 }

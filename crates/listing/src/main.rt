@@ -1,23 +1,15 @@
 // Lists a journal on standard output: that in the file that the argument names, or that on standard input.
 #![tactic(auto)]
 
-use command::Input;
-use conversion::Conversion;
+use command::{Program, WORD};
 use line::NUMBERS;
 
 fn main(rt: HostRuntime) {
-    if !has_work(&rt) {
-        return;
-    }
-    let mut name = [0u8; 4096];
-    let length = command::argument(&rt, 1, &mut name);
-    list_from(&rt, &name[..length]);
-}
-
-// Whether there is a journal to list, or the program only says how it is used.
-fn has_work(rt: &HostRuntime) -> bool {
-    let usage = b"usage: listing [FILE]\nlisting --help says more.\n";
-    let help = b"usage: listing [FILE]\n\
+    let listing = Program {
+        rt: &rt,
+        name: b"listing",
+        usage: b"usage: listing [FILE]\nlisting --help says more.\n",
+        help: b"usage: listing [FILE]\n\
         Lists the journal in FILE, or on standard input if there is no FILE or it is -.\n\
         A FILE whose name begins with - comes after --. Each record is a line:\n\
         \n    ordinal kind who size answer node moves move...\n\n\
@@ -33,47 +25,42 @@ fn has_work(rt: &HostRuntime) -> bool {
         \n    ! offset number\n\n\
         with the offset of the first record that is not listed and the number of the\n\
         refusal; standard error then says why. docs/MANUAL.md has all this with examples,\n\
-        and what each refusal means.\n";
-    command::has_work(rt, b"listing", usage, help, 1)
-}
-
-// Lists the journal in the file of that name, or on standard input for `-`.
-fn list_from(rt: &HostRuntime, name: &[u8]) {
-    let mut input = [0u8; 65537];
-    let read = command::read_input(rt, b"listing", name, &mut input);
-    let Input::Whole(n) = read else {
-        return;
+        and what each refusal means.\n",
+        most: 1,
     };
-    list_whole(rt, name, &input[..n]);
-}
-
-// Lists a journal that was read under that name. Why the listing ended before the journal did is said when all of it is written.
-fn list_whole(rt: &HostRuntime, name: &[u8], journal: &[u8]) {
-    let mut table = [0u16; 4096];
-    let mut line = [0u16; NUMBERS];
-    if list(rt, journal, &mut table, &mut line) && command::close_output(rt, b"listing") {
-        explain(rt, name, journal);
+    if listing.has_work() {
+        let mut name = [0u8; WORD];
+        list_from(&listing, listing.argument(1, &mut name));
     }
 }
 
-// Says on standard error why the listing of a journal has ended, unless it was the end of the journal.
-fn explain(rt: &HostRuntime, name: &[u8], journal: &[u8]) {
-    match conversion::judge(journal) {
-        Conversion::Done { length: _ } => {}
-        Conversion::Refused { number, offset } => {
-            command::explain_end(rt, b"listing", name, number, offset)
-        }
+// Lists the journal in the file of that name, or on standard input for `-`.
+fn list_from(listing: &Program, name: &[u8]) {
+    let mut input = [0u8; 65537];
+    if let Some(n) = listing.read_input(name, &mut input) {
+        list_whole(listing, name, &input[..n]);
+    }
+}
+
+// Lists a journal that was read under that name. Why the listing ended before the journal did is said when all of it is written.
+fn list_whole(listing: &Program, name: &[u8], journal: &[u8]) {
+    let mut table = [0u16; 4096];
+    let mut line = [0u16; NUMBERS];
+    if list(listing, journal, &mut table, &mut line)
+        && listing.close_output()
+        && let Err(at) = conversion::judge(journal)
+    {
+        listing.explain_end(name, at);
     }
 }
 
 // Writes the listing of a journal, block by block, and answers whether all of it was written: a write that fails ends it.
-fn list(rt: &HostRuntime, journal: &[u8], table: &mut [u16], line: &mut [u16]) -> bool {
+fn list(listing: &Program, journal: &[u8], table: &mut [u16], line: &mut [u16]) -> bool {
     let mut block = [0u8; 65536];
     let mut state = replay::start();
     loop {
         let filled = replay::fill(state, journal, table, line, &mut block);
-        let length = filled.length;
-        if !write_all(rt, &block[..length]) {
+        if !listing.write_output(&block[..filled.length]) {
             return false;
         }
         if !filled.on {
@@ -81,8 +68,4 @@ fn list(rt: &HostRuntime, journal: &[u8], table: &mut [u16], line: &mut [u16]) -
         }
         state = filled.state;
     }
-}
-
-fn write_all(rt: &HostRuntime, bytes: &[u8]) -> bool {
-    command::write_output(rt, b"listing", bytes)
 }

@@ -15,8 +15,8 @@ use Rattle.layout.specs.Set.{layout_set}
 use Rattle.layout.specs.Change.{one_block_more}
 use Rattle.table.specs.Table.{node_at, counts_of}
 use Rattle.table.specs.declared.Move.{Move}
+use Rattle.std.specs.Prelude.{None, Ok}
 use Rattle.journal.specs.declared.Record.{Record}
-use Rattle.journal.specs.declared.Read.{Read}
 use Rattle.journal.specs.Journal.{Reading}
 use Rattle.journal.proofs.Theorems.{next_offset}
 use Rattle.sizes.specs.Level.{least_level, level_for}
@@ -57,8 +57,8 @@ now h S t l m size =
     (with_line (block_for h S.table t l) none (line_behind (repeats h S.table t l) S.line))
 
 module _ (h : ℕ) (S : State) (c : Direct) (l m : ℕ) (size : Check) (asks : Asks h c l) (numbered : 0 < size.number) where
-  abbrev node : ℕ
-  node = node_at S.table (tenant_of c)
+  abbrev its_node : ℕ
+  its_node = node_at S.table (tenant_of c)
 
   abbrev earlier : List Check
   earlier = before_8 h S (tenant_of c) m size
@@ -70,16 +70,16 @@ module _ (h : ℕ) (S : State) (c : Direct) (l m : ℕ) (size : Check) (asks : A
   block = former_block h S (tenant_of c) l
 
   abbrev again : Outcome
-  again = with_line (repeated S.table node) none S.line
+  again = with_line (repeated S.table its_node) none S.line
 
   earlier_numbered : Numbered earlier
   earlier_numbered = (omega arith, (omega arith, (omega arith, (omega arith, (omega arith, (numbered, (omega arith, tt)))))))
 
   -- a repeated grant: what came before 8 still refuses it, and else 8 did
-  if_repeated : 0 < node → level h node ≡ l → Dec (first earlier ≡ 0)
+  if_repeated : 0 < its_node → level h its_node ≡ l → Dec (first earlier ≡ 0)
       → AnsweredSince h (direct c) (unless (first (earlier ++ later)) S block) (unless (first (earlier ++ [])) S again)
   if_repeated holds same (yes passed) =
-      let eight : first (earlier ++ later) ≡ 8 = first_after_none earlier later earlier_numbered passed ∙ rw (lt-ltb 0 node holds) in
+      let eight : first (earlier ++ later) ≡ 8 = first_after_none earlier later earlier_numbered passed ∙ rw (lt-ltb 0 its_node holds) in
       let none_applies : first (earlier ++ []) ≡ 0 = first_after_none earlier [] earlier_numbered passed in
       AnsweredSince.repeated_now S c l refl asks holds same (ap (λ (n : ℕ). unless n S block) eight) (ap (λ (n : ℕ). unless n S again) none_applies)
   if_repeated holds same (no applies) =
@@ -99,8 +99,9 @@ module _ (h : ℕ) (S : State) (c : Direct) (l m : ℕ) (size : Check) (asks : A
       go : (b : Bool) → repeats h S.table (tenant_of c) l ≡ b
           → AnsweredSince h (direct c) (unless (first (earlier ++ later)) S block)
           (unless (first (earlier ++ cond b [] later)) S
-          (with_line (cond b (repeated S.table node) (granted h S.table (layout_set h (one_block_more (counts_of h S.table) l)) (tenant_of c) l)) none
-          (cond b S.line passed)))
+          (with_line
+          (cond b (repeated S.table its_node) (granted h S.table (layout_set h (one_block_more (counts_of h S.table) l)) (tenant_of c) l))
+          none (cond b S.line passed)))
       go true r = let held = repeats_holds h S.table (tenant_of c) l r in if_repeated held.0 held.1 (ℕ_discrete (first earlier) 0)
       go false r = AnsweredSince.as_then refl
 
@@ -216,28 +217,28 @@ former_length h S (c ∷ cs) = ap (λ (n : ℕ). suc n) (former_length h (former
 low_of_accepted : (h : ℕ) → Opens h → ltb 12 h ≡ false
 low_of_accepted h accepted = le-ltb 12 h (opens_low h accepted (dec_le h 12))
 
-module _ (j : List ℕ) (h : ℕ) (accepted : Opens h) (rs : List Record) (reading : Reading j 0 (Record.Open h ∷ rs) Read.End) where
-  is_good : contents j ≡ record { records = Record.Open h ∷ rs; last = Read.End }
-  is_good = (conversion_promise j).as_read (Record.Open h ∷ rs) Read.End reading ∙ rw (low_of_accepted h accepted)
+module _ (j : List ℕ) (h : ℕ) (accepted : Opens h) (rs : List Record) (reading : Reading j 0 (Record.Open h ∷ rs) (Ok None)) where
+  is_good : contents j ≡ record { records = Record.Open h ∷ rs; last = Ok None }
+  is_good = (conversion_promise j).as_read (Record.Open h ∷ rs) (Ok None) reading ∙ rw (low_of_accepted h accepted)
 
-  reads : Reading (converted_journal j) 0 (Record.Open h ∷ map converted rs) Read.End
+  reads : Reading (converted_journal j) 0 (Record.Open h ∷ map converted rs) (Ok None)
   reads = rw is_good at ((conversion_promise j).reads_back (ap (λ (c : Contents). c.last) is_good))
 
   reports : AllAnsweredSince h (calls_of (map converted rs)) (former_reports h rs) (reported h accepted (map converted rs))
   reports = all_since h (open_reserve h vacant).state rs
 
-  shown : Shows (converted_journal j) (Record.Open h ∷ map converted rs) Read.End
+  shown : Shows (converted_journal j) (Record.Open h ∷ map converted rs) (Ok None)
       → listing (converted_journal j) ≡ open_line h ++ lines_after 1 (map converted rs) (reported h accepted (map converted rs))
   shown (Shows.too_high high is) = absurd (omega (arith, ltb-false 12 h (low_of_accepted h accepted)))
   shown (Shows.history low opened calls is) = is ∙ rw append-nil
 
   lists : listing (converted_journal j) ≡ open_line h ++ lines_after 1 (map converted rs) (reported h accepted (map converted rs))
-  lists = shown (listing_is_history (converted_journal j) (Record.Open h ∷ map converted rs) Read.End reads)
+  lists = shown (listing_is_history (converted_journal j) (Record.Open h ∷ map converted rs) (Ok None) reads)
 
   one_report_each : length (former_reports h rs) ≡ length rs
   one_report_each = go reading
     where
-      go : Reading j 0 (Record.Open h ∷ rs) Read.End → length (former_reports h rs) ≡ length rs
+      go : Reading j 0 (Record.Open h ∷ rs) (Ok None) → length (former_reports h rs) ≡ length rs
       go (Reading.record_then {next = next} e more) =
           former_length h (open_reserve h vacant).state (calls_of rs)
           ∙ one_call_each j more (omega (arith, next_offset j 0 (Record.Open h) next e))

@@ -5,14 +5,17 @@ use mathlib.Core.Option.{none}
 use Prim.Native.Nat.{ℕ}
 use borrow.Author.Tests.{lt-ltb, le-ltb}
 use lib.ListN.{length}
+use Rattle.std.specs.Prelude.{None, Result, Ok, Err}
+use Rattle.refusal.specs.declared.Refusal.{Refusal}
+use Rattle.refusal.specs.Number.{number_of}
 use Rattle.journal.specs.declared.Record.{Record}
-use Rattle.journal.specs.declared.Read.{Read}
+use Rattle.journal.specs.declared.RefusedAt.{RefusedAt}
+use Rattle.journal.specs.Reader.{refused_at, Read}
 use Rattle.journal.specs.Journal.{Reading}
 use Rattle.journal.proofs.Theorems.{no_end_at_start}
 use Rattle.journal.proofs.Whole.{reading_ends}
 use Rattle.lines.specs.Line.{stop_line}
 use Rattle.replay.specs.Listing.{listing}
-use Rattle.conversion.specs.declared.Conversion.{Conversion}
 use Rattle.conversion.specs.Conversion.{Contents, converted_journal, judged_by, judged}
 use Rattle.conversion.specs.Promises.{contents_of}
 use Rattle.conversion.proofs.Promises.{conversion_promise}
@@ -23,8 +26,8 @@ use Rattle.old_journals.proofs.Marks.{unmarked_both, line_unmarked, lines_unmark
 
 -- what ends a reading: the end of the journal or a refusal
 data Ended : Read → Type 0 where
-  at_end : Ended Read.End
-  refused : {n o : ℕ} → Ended (Read.Refused n o)
+  at_end : Ended (Ok None)
+  refused : {r : RefusedAt} → Ended (Err r)
 
 reading_ended : (j : List ℕ) {at : ℕ} {rs : List Record} {last : Read} → Reading j at rs last → Ended last
 reading_ended j (Reading.ends e) = Ended.at_end
@@ -33,16 +36,16 @@ reading_ended j (Reading.record_then e more) = reading_ended j more
 
 module _ (j : List ℕ) where
   -- what becomes of the journal, by what ends its contents
-  abbrev judged_after : Read → Conversion
+  abbrev judged_after : Read → Result ℕ RefusedAt
   judged_after last = judged_by last (length (converted_journal j))
 
-  ends_refused : (lines : List ℕ) (number offset : ℕ) → Unmarked lines → listing j ≡ lines ++ stop_line offset number
-      → AsListed j (Conversion.Refused number offset)
-  ends_refused lines number offset p e = AsListed.with_mark lines p e
+  ends_refused : (lines : List ℕ) (r : RefusedAt) → Unmarked lines → listing j ≡ lines ++ stop_line r.offset (number_of r.refusal)
+      → AsListed j (Err r)
+  ends_refused lines r p e = AsListed.with_mark lines p e
 
   ends_by : (lines : List ℕ) (last : Read) → Ended last → Unmarked lines → listing j ≡ lines ++ last_line last → AsListed j (judged_after last)
   ends_by lines last Ended.at_end p e = AsListed.without_mark (rw (e, append-nil) p)
-  ends_by lines last (Ended.refused {n = n} {o = o}) p e = ends_refused lines n o p e
+  ends_by lines last (Ended.refused {r = r}) p e = ends_refused lines r p e
 
   history_unmarked : (h : ℕ) (accepted : Opens h) (rs : List Record) → Unmarked (open_line h ++ lines_after 1 rs (reported h accepted rs))
   history_unmarked h accepted rs =
@@ -51,9 +54,9 @@ module _ (j : List ℕ) where
 
   ends_shown : (rs : List Record) (last : Read) → Reading j 0 rs last → Shows j rs last → AsListed j (judged_after (contents_of rs last).last)
   ends_shown rs last (Reading.ends e) shows = absurd (no_end_at_start j e)
-  ends_shown rs last (Reading.refused {n = n} {o = o} e) (Shows.nothing_read is) = ends_refused [] n o tt is
+  ends_shown rs last (Reading.refused {refusal = r} e) (Shows.nothing_read is) = ends_refused [] r tt is
   ends_shown rs last (Reading.record_then e more) (Shows.too_high {h = h} high is) =
-      rw (lt-ltb 12 h high) (ends_refused [] 1 0 tt is)
+      rw (lt-ltb 12 h high) (ends_refused [] (refused_at Refusal.Height 0) tt is)
   ends_shown rs last (Reading.record_then e more) (Shows.history {h = h} {rs = rest} low accepted calls is) =
       rw (le-ltb 12 h low)
       (ends_by (open_line h ++ lines_after 1 rest (reported h accepted rest)) last (reading_ended j more) (history_unmarked h accepted rest) is)

@@ -1,20 +1,16 @@
 -- No line of a record has a `!` in it.
-use mathlib.Core.Bool.{Bool, true, false, cond}
 use mathlib.Core.List.{List, [], ◌∷◌, ◌++◌, map}
-use mathlib.Core.Option.{Option, some, none}
-use Prim.Native.Nat.{ℕ, zero, suc, ◌+◌}
+use mathlib.Core.Option.{Option}
+use Prim.Native.Nat.{ℕ, ◌+◌}
 use native.Mathlib.Omega.{arith}
-use lib.Dec.{eqb}
 use lib.ListN.{length}
 use Rattle.table.specs.declared.Move.{Move}
 use Rattle.journal.specs.declared.Record.{Record}
-use Rattle.journal.specs.declared.Kind.{Kind}
-use Rattle.journal.specs.Format.{same_kind, kind_of, who}
 use Rattle.admission.specs.Step.{Outcome}
-use Rattle.lines.specs.Ascii.{byte, bytes}
+use Rattle.lines.specs.Ascii.{bytes}
 use Rattle.lines.specs.Decimal.{decimal, AllDigits}
-use Rattle.lines.specs.Line.{spaced, joined, letter, granted_field, who_field, size, node_if_done, has_node, node_field, separator, move_field, move_fields}
-use Rattle.lines.specs.Line.{line_of}
+use Rattle.lines.specs.Line.{spaced, joined, letter, granted_field, who_field, size, node_if_done, node_field, separator}
+use Rattle.lines.specs.Line.{move_field, move_fields, line_of}
 use Rattle.lines.proofs.Decimal.{decimal_right}
 use Rattle.histories.specs.Listing.{line_with, lines_after}
 use Rattle.old_journals.specs.Promises.{Unmarked}
@@ -36,53 +32,25 @@ hyphen_unmarked : Unmarked (bytes "-")
 hyphen_unmarked = ((λ e. omega arith), tt)
 
 letter_unmarked : (r : Record) → Unmarked (letter r ∷ [])
-letter_unmarked (Record.Open height) = ((λ e. omega arith), tt)
-letter_unmarked (Record.GrantLevel tenant level) = ((λ e. omega arith), tt)
-letter_unmarked (Record.GrantPages tenant pages) = ((λ e. omega arith), tt)
-letter_unmarked (Record.Release tenant) = ((λ e. omega arith), tt)
-letter_unmarked (Record.Grow tenant level) = ((λ e. omega arith), tt)
-letter_unmarked (Record.Join tenant level) = ((λ e. omega arith), tt)
-letter_unmarked Record.Admit = ((λ e. omega arith), tt)
-letter_unmarked (Record.Withdraw tenant) = ((λ e. omega arith), tt)
+letter_unmarked r = ((λ e. grind arith), tt)
 
 granted_unmarked : (named : Option ℕ) → Unmarked (granted_field named)
-granted_unmarked none = hyphen_unmarked
-granted_unmarked (some tenant) = decimal_unmarked tenant
+granted_unmarked named = grind (arith, hyphen_unmarked, decimal_unmarked)
 
 who_unmarked : (r : Record) (named : Option ℕ) → Unmarked (who_field r named)
-who_unmarked r named = go (same_kind (kind_of r) Kind.Admit)
-  where
-    go : (b : Bool) → Unmarked (cond b (granted_field named) (decimal (who r)))
-    go true = granted_unmarked named
-    go false = decimal_unmarked (who r)
+who_unmarked r named = grind (arith, granted_unmarked, decimal_unmarked)
 
 size_unmarked : (r : Record) → Unmarked (size r)
-size_unmarked (Record.Open height) = hyphen_unmarked
-size_unmarked (Record.GrantLevel tenant level) = decimal_unmarked level
-size_unmarked (Record.GrantPages tenant pages) = decimal_unmarked pages
-size_unmarked (Record.Release tenant) = hyphen_unmarked
-size_unmarked (Record.Grow tenant level) = decimal_unmarked level
-size_unmarked (Record.Join tenant level) = decimal_unmarked level
-size_unmarked Record.Admit = hyphen_unmarked
-size_unmarked (Record.Withdraw tenant) = hyphen_unmarked
+size_unmarked r = grind (arith, hyphen_unmarked, decimal_unmarked)
 
 done_unmarked : (answer node : ℕ) → Unmarked (node_if_done answer node)
-done_unmarked zero node = decimal_unmarked node
-done_unmarked (suc number) node = hyphen_unmarked
+done_unmarked answer node = grind (arith, hyphen_unmarked, decimal_unmarked)
 
 node_unmarked : (r : Record) (answer node : ℕ) → Unmarked (node_field r answer node)
-node_unmarked r answer node = go (has_node (kind_of r))
-  where
-    go : (b : Bool) → Unmarked (cond b (node_if_done answer node) (bytes "-"))
-    go true = done_unmarked answer node
-    go false = hyphen_unmarked
+node_unmarked r answer node = grind (arith, done_unmarked, hyphen_unmarked)
 
 separator_unmarked : (staged : ℕ) → Unmarked (separator staged ∷ [])
-separator_unmarked staged = go (eqb staged 0)
-  where
-    go : (b : Bool) → Unmarked (cond b (byte ">") (byte "=") ∷ [])
-    go true = ((λ e. omega arith), tt)
-    go false = ((λ e. omega arith), tt)
+separator_unmarked staged = ((λ e. grind arith), tt)
 
 move_unmarked : (m : Move) → Unmarked (move_field m)
 unfolding move_field

@@ -1,14 +1,14 @@
 -- When an old journal is converted, and what its conversion is answered. Document 02, L4, with the repeated grant of L6.
-use Rattle.std.specs.Prelude.{◌≡◌, List, [], ◌∷◌, ◌++◌, map, ℕ, ◌<◌, length}
+use Rattle.std.specs.Prelude.{◌≡◌, List, [], ◌∷◌, ◌++◌, map, None, Result, Ok, Err, ℕ, ◌<◌, length}
 use Rattle.std.proofs.Math.Option.{none}
+use Rattle.refusal.specs.Number.{number_of}
 use Rattle.journal.specs.declared.Record.{Record}
-use Rattle.journal.specs.declared.Read.{Read}
+use Rattle.journal.specs.declared.RefusedAt.{RefusedAt}
 use Rattle.journal.specs.Journal.{Reading}
 use Rattle.lines.specs.Ascii.{byte}
 use Rattle.lines.specs.Decimal.{decimal}
 use Rattle.lines.specs.Line.{line_of, stop_line}
 use Rattle.replay.specs.Listing.{listing}
-use Rattle.conversion.specs.declared.Conversion.{Conversion}
 use Rattle.conversion.specs.Conversion.{converted, converted_journal, judged}
 use Rattle.tree.specs.Node.{level}
 use Rattle.table.specs.Table.{node_at}
@@ -28,10 +28,10 @@ Unmarked [] = Unit {0}
 Unmarked (b ∷ bs) = ¬ (b ≡ byte "!") × Unmarked bs
 
 -- what becomes of a journal, by how its listing ends: without a `!`, or with the one line of a refusal that begins with it
-pub data AsListed (journal : List ℕ) : Conversion → Type 0 where
-  without_mark : Unmarked (listing journal) → AsListed journal (Conversion.Done (length (converted_journal journal)))
-  with_mark : {number offset : ℕ} (lines : List ℕ) → Unmarked lines → listing journal ≡ lines ++ stop_line offset number
-      → AsListed journal (Conversion.Refused number offset)
+pub data AsListed (journal : List ℕ) : Result ℕ RefusedAt → Type 0 where
+  without_mark : Unmarked (listing journal) → AsListed journal (Ok (length (converted_journal journal)))
+  with_mark : {r : RefusedAt} (lines : List ℕ) → Unmarked lines → listing journal ≡ lines ++ stop_line r.offset (number_of r.refusal)
+      → AsListed journal (Err r)
 
 -- a journal is refused exactly if its listing ends with `!`, and with the number and the offset in that line
 abbrev pub RefusedAsListed : Type 0
@@ -75,7 +75,7 @@ pub data LinesAlike : List Record → List ℕ → List ℕ → Type 0 where
 -- a good journal, which reads as an open of height h and the records rs
 pub record AnsweredAlike (journal : List ℕ) (h : ℕ) (accepted : Opens h) (rs : List Record) : Type 0 where
   -- the converted journal reads as the converted records
-  pub reads : Reading (converted_journal journal) 0 (Record.Open h ∷ map converted rs) Read.End
+  pub reads : Reading (converted_journal journal) 0 (Record.Open h ∷ map converted rs) (Ok None)
   -- they are answered as the old ones were, record by record, but for repeated grants
   pub reports : AllAnsweredSince h (calls_of (map converted rs)) (former_reports h rs) (reported h accepted (map converted rs))
   -- the listing shows that
@@ -85,5 +85,5 @@ pub record AnsweredAlike (journal : List ℕ) (h : ℕ) (accepted : Opens h) (rs
 
 -- the promise for every journal
 abbrev pub AnsweredAsBefore : Type 0
-AnsweredAsBefore = (journal : List ℕ) (h : ℕ) (accepted : Opens h) (rs : List Record) → Reading journal 0 (Record.Open h ∷ rs) Read.End
+AnsweredAsBefore = (journal : List ℕ) (h : ℕ) (accepted : Opens h) (rs : List Record) → Reading journal 0 (Record.Open h ∷ rs) (Ok None)
     → AnsweredAlike journal h accepted rs

@@ -2,15 +2,15 @@
 use mathlib.Core.Path.{◌≡◌, refl, sym, ap, ◌∙◌}
 use mathlib.Core.List.{List, ◌++◌}
 use Prim.Native.Nat.{ℕ, zero, suc, ◌+◌, ◌-◌, ◌*◌, ◌/◌, ◌%◌, ◌^◌, ◌≤◌, ◌<◌}
-use native.Mathlib.Nat.{zero-add, mul-le-mul_right, mod-eq_of_lt, pow-suc}
+use native.Mathlib.Nat.{zero-add, mul-le-mul_right, le-mul_of_pos_right, mod-eq_of_lt, pow-suc}
 use native.Mathlib.Numerals.{one-add}
 use native.Mathlib.Decide.{ℕ_discrete, dec_lt}
 use native.Mathlib.Omega.{arith}
 use lib.Bits.{block_half, block_odd}
 use lib.Count.{ones, ones_step}
-use lib.ListN.{length, get_or, set, drop, length-append, length-drop, get_or-eq_default}
+use lib.ListN.{length, get_or, set, drop, get_or-eq_default}
 use lib.Seq.{set_at, drop-cons, append_snoc}
-use lib.Pow.{shr-shr, high}
+use lib.Pow.{shr-shr, high, pow_pos}
 use Rattle.tree.specs.Pages.{sum}
 use Rattle.tree.proofs.Sum.{sum_first, sum_cong}
 use Rattle.table.proofs.Tabulate.{tabulate_length, get_d_tabulate, tabulate_cong, tabulate_last}
@@ -61,7 +61,7 @@ module _ (d : ℕ → ℕ) (bits : (b : ℕ) → d b ≤ 1) where
       ]
 
 -- the highest of the bits below b, shifted into x
-pub shift_in : (d : ℕ → ℕ) (x b : ℕ) → 0 < b
+shift_in : (d : ℕ → ℕ) (x b : ℕ) → 0 < b
     → (x * 2 + d (b - 1)) * 2 ^ (b - 1) + sum (b - 1) (λ i. d i * 2 ^ i) ≡ x * 2 ^ b + sum b (λ i. d i * 2 ^ i)
 unfolding sum
 shift_in d x zero q = absurd (omega arith)
@@ -84,6 +84,19 @@ bytes_cong n d e same = tabulate_cong 0 n (λ j q r. sum_cong 8 (λ b s. ap (λ 
 pub byte_of_bits : (d : ℕ → ℕ) → ((p : ℕ) → d p ≤ 1) → (j : ℕ) → byte_of d j < 256
 unfolding byte_of
 byte_of_bits d bits j = sum_of_bits_below (λ b. d (8 * j + b)) (λ b. bits (8 * j + b)) 8
+
+-- one bit more of byte j, from the highest on: x is made of those from bit b on
+pub next_bit : (d : ℕ → ℕ) → ((p : ℕ) → d p ≤ 1) → (j x b : ℕ) → 0 < b
+    → x * 2 ^ b + sum b (λ i. d (8 * j + i) * 2 ^ i) ≡ byte_of d j
+    → ((x * 2 + d (8 * j + (b - 1))) * 2 ^ (b - 1) + sum (b - 1) (λ i. d (8 * j + i) * 2 ^ i) ≡ byte_of d j)
+    × (x * 2 + d (8 * j + (b - 1)) < 256)
+next_bit d bits j x b q so_far = (next, omega (arith, next, le-mul_of_pos_right y (pow_pos (b - 1)), byte_of_bits d bits j))
+  where
+    y : ℕ
+    y = x * 2 + d (8 * j + (b - 1))
+
+    next : y * 2 ^ (b - 1) + sum (b - 1) (λ i. d (8 * j + i) * 2 ^ i) ≡ byte_of d j
+    next = shift_in (λ i. d (8 * j + i)) x b q ∙ so_far
 
 module _ (d : ℕ → ℕ) (bits : (p : ℕ) → d p ≤ 1) (n : ℕ) where
   pub byte_below_256 : (j : ℕ) → get_or (bytes_of n d) j 0 < 256
@@ -115,6 +128,3 @@ module _ (d : ℕ → ℕ) (m : List ℕ) where
       ∙ set_at (bytes_of j d) (get_or m j 0) (drop (suc j) m) (byte_of d j) j (bytes_length j d)
       ∙ sym (append_snoc (bytes_of j d) (byte_of d j) (drop (suc j) m))
       ∙ ap (λ (xs : List ℕ). xs ++ drop (suc j) m) (rw zero-add at (sym (tabulate_last 0 j (byte_of d))))
-
-  pub written_length : (j : ℕ) → j ≤ length m → length (bytes_of j d ++ drop j m) ≡ length m
-  written_length j q = rw (length-append, bytes_length, length-drop) (omega arith)

@@ -1,14 +1,19 @@
 -- Laws of ranges of pages: when a page lies in one, and how its flags are set one by one.
-use mathlib.Core.Path.{◌≡◌, sym, ap, ap₂, ◌∙◌}
+use mathlib.Core.Path.{◌≡◌, refl, sym, ap, ap₂, ◌∙◌}
 use mathlib.Core.Bool.{Bool, true, cond, ◌&&◌}
-use mathlib.Core.List.{List}
-use Prim.Native.Nat.{ℕ, suc, ◌*◌, ◌/◌, ◌≤◌, ◌<◌}
-use native.Mathlib.Nat.{zero-add, le-div_iff_mul-le, div-lt_iff_lt-mul}
+use mathlib.Core.List.{List, []}
+use Prim.Native.Nat.{ℕ, zero, suc, ◌+◌, ◌-◌, ◌*◌, ◌/◌, ◌≤◌, ◌<◌, min}
+use native.Mathlib.Nat.{zero-add, add-zero, add-suc, le-div_iff_mul-le, div-lt_iff_lt-mul}
+use native.Mathlib.Numerals.{add-one}
 use native.Mathlib.Omega.{arith}
 use borrow.Author.Tests.{leb-true, le-leb, ltb-true, lt-ltb, eqb-true, eq-eqb}
 use lib.Dec.{leb, ltb, eqb}
-use lib.ListN.{length, get_or, set}
-use lib.Seq.{ext_get_or}
+use lib.ListN.{length, get_or, set, replicate, length-take, length-drop}
+use lib.Seq.{ext_get_or, paste}
+use borrow.Rule.Slice.PartMut.{put_mid, mid_of}
+use Rattle.std.proofs.lemmas.List.{length-replicate}
+use Rattle.std.proofs.lemmas.List.Edits.{paste_none, fill_from_more}
+use Rattle.std.proofs.lemmas.Slice.{put_mid-paste}
 use Rattle.tree.proofs.Sets.{both_left, both_right}
 use Rattle.tree.proofs.Count.{equal_of_both_ways}
 use Rattle.layout.proofs.Sizes.{false_unless_true}
@@ -79,11 +84,30 @@ module _ (a : ℕ) (xs : List ℕ) where
       elsewhere : (p : ℕ) → ¬ (p ≡ i) → flag_at i p ≡ flag_at (suc i) p
       elsewhere p d = rw (same_between a i p a (suc i) p (λ r. omega arith) (λ r. omega arith))
 
-  -- ranges whose ends make no difference to the pages that there are
-  pub filled_same : (i b : ℕ) → ((p : ℕ) → p < length xs → (Between a i p → Between a b p) × (Between a b p → Between a i p))
-      → filled a i xs ≡ filled a b xs
-  unfolding filled
-  filled_same i b same =
-      tabulate_cong 0 (length xs) λ p q r.
-      let both_ways = same p (omega arith) in
-      ap (λ (t : Bool). cond t 1 (get_or xs p 0)) (same_between a i p a b p both_ways.0 both_ways.1)
+  filled_run : (i : ℕ) → a + i ≤ length xs → paste xs a (replicate i 1) i ≡ filled a (a + i) xs
+  filled_run zero q = sym (paste_none xs a []) ∙ sym filled_none ∙ ap (λ (b : ℕ). filled a b xs) (sym (add-zero a))
+  filled_run (suc i) q =
+      ap (λ (n : ℕ). paste xs a (replicate n 1) n) (sym (add-one i))
+      ∙ sym (fill_from_more xs a i 1 (omega arith))
+      ∙ ap (λ (ys : List ℕ). set ys (a + i) 1) (filled_run i (omega arith))
+      ∙ filled_more (a + i) (omega arith) (omega arith)
+      ∙ ap (λ (b : ℕ). filled a b xs) (sym (add-suc a i))
+
+-- ends past the last page, of which there are n, make no difference
+filled_capped : (a b n : ℕ) (xs : List ℕ) → length xs ≡ n → filled (min a n) (min b n) xs ≡ filled a b xs
+unfolding filled
+filled_capped a b n xs long =
+    tabulate_cong 0 (length xs) λ p q r.
+    ap (λ (t : Bool). cond t 1 (get_or xs p 0)) (same_between (min a n) (min b n) p a b p (λ s. omega arith) (λ s. omega arith))
+
+pub filled_part : (a b : ℕ) (xs : List ℕ) (n : ℕ) → length xs ≡ n → a ≤ b
+    → put_mid (min a n) (min b n - min a n) xs (replicate (length (mid_of (min a n) (min b n - min a n) xs)) 1) ≡ filled a b xs
+filled_part a b xs n long le =
+    let from = min a n in
+    let k = min b n - from in
+    let inside : length (mid_of from k xs) ≡ k = simp (length-take, length-drop) (omega arith) in
+    let past : from + k ≡ min b n = omega arith in
+    rw inside
+    (put_mid-paste from k xs (replicate k 1) (replicate k 1) k refl refl (sym (length-replicate k 1))
+    ∙ filled_run from xs k (omega arith)
+    ∙ rw past (filled_capped a b n xs long))

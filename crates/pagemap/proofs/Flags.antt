@@ -53,7 +53,8 @@ filled_flags n a b f =
     (tabulate_cong 0 n (λ p q r. ap (cond (between a b p) 1) (flag_at n f p (omega arith)) ∙ one_if_or_else (between a b p) (f p)))
 
 -- the row of level l: its blocks have 2^l pages each
-pub row_filled_flags : (n w s k x : ℕ) (f : ℕ → Bool) → 0 < w → row_filled w s k x (flags n f) ≡ flags n (λ p. in_row s k x (p / w) || f p)
+pub row_filled_flags : (n w s k x : ℕ) (f : ℕ → Bool) → 0 < w
+    → row_filled w s k x (flags n f) ≡ flags n (λ p. in_row s k x (p / w) || f p)
 row_filled_flags n w s k x f q =
     ap (filled (x * w) (suc x * w)) (filled_flags n (s * w) ((s + k) * w) f)
     ∙ filled_flags n (x * w) (suc x * w) (λ p. between (s * w) ((s + k) * w) p || f p)

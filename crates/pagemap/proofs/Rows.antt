@@ -2,13 +2,13 @@
 use mathlib.Core.Path.{◌≡◌, sym, ap, ◌∙◌}
 use mathlib.Core.Bool.{Bool, true, false, ◌||◌, or-false}
 use mathlib.Core.List.{List}
-use Prim.Native.Nat.{ℕ, zero, suc, ◌/◌, ◌^◌, ◌≤◌, ◌<◌}
+use Prim.Native.Nat.{ℕ, zero, suc, ◌*◌, ◌/◌, ◌%◌, ◌^◌, ◌≤◌, ◌<◌}
 use native.Mathlib.Decide.{dec_le}
 use native.Mathlib.Omega.{arith}
 use borrow.Author.Tests.{leb-true, le-leb, lt-leb}
 use lib.Dec.{leb}
 use lib.ListN.{length, get_or}
-use lib.Pow.{pow_pos, shr_le}
+use lib.Pow.{pow_pos, shr_le, shl_exact}
 use Rattle.tree.specs.Held.{one_if}
 use Rattle.tree.specs.Block.{Block, past, node, Blocks, blocks_of, BWithin}
 use Rattle.tree.specs.Pages.{over, coveredb}
@@ -48,10 +48,15 @@ next_row n L l q =
     rw (get_or_inside L.lone l 0 no_index q)
     (row_filled_flags n (2 ^ l) (get_or L.start l 0) (get_or L.run l 0) (get_or L.lone l no_index) (covered_below l (rows_hold L)) (pow_pos l))
 
+-- the size of the blocks of level l, shifted in a number of 64 bits
+pub shifted : (l : ℕ) → l ≤ 12 → 1 * 2 ^ l % 18446744073709551616 ≡ 2 ^ l
+shifted l q = shl_exact {a = 1} 1 l 64 (omega arith) (omega arith) ∙ omega arith
+
 -- ---- a table in order
 
 -- the layout of the table's counts, as a set of blocks, is the set of the table's blocks
-layout_is_held : (h : ℕ) (T : List ℕ) → h ≤ 12 → InOrder h T → (b : Block) → among (layout (counts_of h T)) b ≡ blocks_of h (occupied T) b
+layout_is_held : (h : ℕ) (T : List ℕ) → h ≤ 12 → InOrder h T → (b : Block)
+    → among (layout (counts_of h T)) b ≡ blocks_of h (occupied T) b
 layout_is_held h T low o b =
     elim (dec_le (past b) (2 ^ h)) [
       | yes q ↦ rw (le-leb (past b) (2 ^ h) q) (sym (in_order_is_layout h T low o (node h b) ∙ (set_of_nodes h B within).same b q))

@@ -2,18 +2,19 @@
 #![tactic(auto)]
 
 ghost use Rattle.std.specs.Prelude.{◌≡◌, ℕ, min, ◌≤◌, ◌<◌, ◌++◌, length, get_or, take, drop};
+ghost use Rattle.refusal.specs.Number.{number_in};
 ghost use Rattle.tree.specs.Held.{one_if};
 ghost use Rattle.tree.specs.Pages.{coveredb};
 ghost use Rattle.layout.specs.Rows.{rows_hold};
 ghost use Rattle.pagemap.specs.Map.{byte_of, bytes_of};
 ghost use Rattle.pagemap.specs.Draw.{drawing, drawn};
-ghost use Rattle.pagemap.specs.Count.{set_bits, counted};
-ghost use Rattle.pagemap.specs.Flags.{flags, filled, row_filled};
+ghost use Rattle.pagemap.specs.Count.{set_bits, counted, count_in};
+ghost use Rattle.pagemap.specs.Flags.{filled, row_filled};
 ghost use Rattle.pagemap.specs.Numbers.{number_at};
 
 use calls::request::reserve_refusal;
 use layout::{LEVELS, Layout};
-use refusal::{NOT_IN_ORDER, TOO_SHORT};
+use refusal::Refusal;
 use survey::survey;
 use table::NODES;
 
@@ -22,51 +23,32 @@ const PAGES: usize = 4096;
 
 pub const MAP_BYTES: usize = 512;
 
-// How many numbers of 64 bits make a map.
-const NUMBERS: usize = 64;
-
-// What counting answers: 0 and the number of set bits, or 15 and 0.
-#[repr(C)]
-#[derive(Clone, Copy)]
-pub struct Counted {
-    pub answer: u16,
-    pub count: u16,
-}
-
-// Draws the page map of a table into the first 512 bytes, and answers 0 or the number of the first refusal that applies.
-pub fn draw(height: u16, table: &[u16], map: &mut [u8]) -> u16
-    ensures { drawing result map.new ≡ drawn height table.now map.old }
+// Draws the page map of a table into the first 512 bytes, or refuses with the first refusal that applies.
+pub fn draw(height: u16, table: &[u16], map: &mut [u8]) -> Result<(), Refusal>
+    ensures { drawing (number_in result) map.new ≡ drawn height table.now map.old }
 {
-    let number = reserve_refusal(height, table.len());
-    if number != 0 {
-        return number;
-    }
+    reserve_refusal(height, table.len())?;
     let mut owner = [0u16; NODES];
     let found = survey(height, table, &mut owner);
     if !found.in_order {
-        return NOT_IN_ORDER;
+        return Err(Refusal::NotInOrder);
     }
     if map.len() < MAP_BYTES {
-        return TOO_SHORT;
+        return Err(Refusal::TooShort);
     }
-    let counts = found.counts;
-    write_map(counts.layout(), map);
-    0
+    write_map(found.counts.layout(), map);
+    Ok(())
 }
 
-// The number of set bits in the first 512 bytes; 15 for a shorter map.
-pub fn count(map: &[u8]) -> Counted
-    ensures { result ≡ counted map.now }
+// The number of set bits in the first 512 bytes; a shorter map is refused.
+pub fn count(map: &[u8]) -> Result<u16, Refusal>
+    ensures answer { number_in result ≡ (counted map.now).answer }
+    ensures count { count_in result ≡ (counted map.now).count }
 {
     if MAP_BYTES <= map.len() {
-        return Counted {
-            answer: 0,
-            count: set_bits(map),
-        };
-    }
-    Counted {
-        answer: TOO_SHORT,
-        count: 0,
+        Ok(set_bits(map))
+    } else {
+        Err(Refusal::TooShort)
     }
 }
 
@@ -77,96 +59,57 @@ fn set_bits(map: &[u8]) -> u16
     ensures { result ≡ set_bits (take 512 map.now) }
 {
     let mut n: u64 = 0;
-    let mut k = 0;
-    while k < NUMBERS {
-        let at = 8 * k;
-        n += u64::count_ones(number(&map[at..])) as u64;
-        k += 1;
+    for bytes in map[..MAP_BYTES].as_chunks::<8>().0 {
+        n += u64::from(number(*bytes).count_ones());
     }
     n as u16
 }
 
-// The number of 64 bits that the first eight bytes make, low byte first. There is no loop, because the compiler makes one load of such a sum before
-// it looks at the loop above.
-fn number(bytes: &[u8]) -> u64
-    requires { 8 ≤ length bytes.now }
-    ensures { result ≡ number_at bytes.now 0 }
+// The number of 64 bits that eight bytes make, low byte first.
+fn number(bytes: [u8; 8]) -> u64
+    ensures { result ≡ number_at bytes 0 }
 {
-    wide(bytes[0])
-        + wide(bytes[1]) * 0x100
-        + wide(bytes[2]) * 0x1_0000
-        + wide(bytes[3]) * 0x100_0000
-        + wide(bytes[4]) * 0x1_0000_0000
-        + wide(bytes[5]) * 0x100_0000_0000
-        + wide(bytes[6]) * 0x1_0000_0000_0000
-        + wide(bytes[7]) * 0x100_0000_0000_0000
+    u64::from_le_bytes(bytes)
 }
 
-// A byte as a number of 64 bits.
-fn wide(byte: u8) -> u64
-    ensures { (result ≡ byte) × (result < 256) }
-{
-    byte as u64
-}
-
-// Writes the map of the layout to the first 512 bytes.
+// Writes the map of the layout to the first 512 bytes: a flag for each page, 1 where a block of the layout covers it, and the flags packed.
 fn write_map(layout: Layout, map: &mut [u8])
     requires { 512 ≤ length map.old }
     ensures { map.new ≡ bytes_of 512 (λ p. one_if (coveredb 12 (rows_hold layout) p)) ++ drop 512 map.old }
 {
-    let pages = page_flags(layout);
-    pack(&pages, map);
-}
-
-// A flag for each page: 1 where a block of the layout covers it.
-fn page_flags(layout: Layout) -> [u8; PAGES]
-    ensures { result ≡ flags 4096 (coveredb 12 (rows_hold layout)) }
-{
-    let starts = layout.start;
-    let runs = layout.run;
-    let lones = layout.lone;
+    let Layout { start, run, lone } = layout;
     let mut pages = [0u8; PAGES];
-    let mut size: usize = 1;
-    let mut level: usize = 0;
-    while level < LEVELS {
-        fill_row(&mut pages, size, starts[level], runs[level], lones[level]);
-        size *= 2;
-        level += 1;
+    for level in 0..LEVELS {
+        fill_row(
+            &mut pages,
+            1 << level,
+            start[level],
+            run[level],
+            lone[level],
+        );
     }
-    pages
+    pack(&pages, map);
 }
 
 // Sets the flags of the pages of the `run` blocks from index `start` on and of the block at index `lone`, each of `size` pages. What lies past
 // the last page has no flag, and at any size that is where index 65,535 lies, which stands for no block.
 fn fill_row(pages: &mut [u8; PAGES], size: usize, start: u16, run: u16, lone: u16)
-    requires { (size ≤ 4096) × (length pages.old ≡ 4096) }
+    requires { size ≤ 4096 }
     ensures { pages.new ≡ row_filled size start run lone pages.old }
 {
-    let first = start as usize;
-    let past = first + run as usize;
+    let first = usize::from(start);
+    let past = first + usize::from(run);
     fill(pages, first * size, past * size);
-    let at = lone as usize;
+    let at = usize::from(lone);
     fill(pages, at * size, (at + 1) * size);
 }
 
 // Sets the flags of the pages from `from` to before `to`.
 fn fill(pages: &mut [u8; PAGES], from: usize, to: usize)
-    requires { length pages.old ≡ 4096 }
+    requires { from ≤ to }
     ensures { pages.new ≡ filled from to pages.old }
 {
-    let end = capped(to);
-    let mut i = from;
-    while i < end {
-        pages[i] = 1;
-        i += 1;
-    }
-}
-
-// The page, or 4,096 where it is past the last one.
-fn capped(page: usize) -> usize
-    ensures { result ≡ min page 4096 }
-{
-    if page < PAGES { page } else { PAGES }
+    pages[from.min(PAGES)..to.min(PAGES)].fill(1);
 }
 
 // Packs the flags into the first 512 bytes, eight to a byte.
@@ -174,10 +117,8 @@ fn pack(pages: &[u8; PAGES], map: &mut [u8])
     requires { (512 ≤ length map.old) × ((p : ℕ) → get_or pages.now p 0 ≤ 1) }
     ensures { map.new ≡ bytes_of 512 (λ p. get_or pages.now p 0) ++ drop 512 map.old }
 {
-    let mut j = 0;
-    while j < MAP_BYTES {
-        map[j] = byte(pages, j);
-        j += 1;
+    for (j, packed) in map[..MAP_BYTES].iter_mut().enumerate() {
+        *packed = byte(pages, j);
     }
 }
 
@@ -186,10 +127,8 @@ fn byte(pages: &[u8; PAGES], j: usize) -> u8
     requires { (j < 512) × ((p : ℕ) → get_or pages.now p 0 ≤ 1) }
     ensures { result ≡ byte_of (λ p. get_or pages.now p 0) j }
 {
-    let mut sum: u8 = 0;
-    let mut b: usize = 8;
-    while 0 < b {
-        b -= 1;
+    let mut sum = 0;
+    for b in (0..8).rev() {
         sum = sum * 2 + pages[8 * j + b];
     }
     sum

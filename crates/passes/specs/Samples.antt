@@ -1,5 +1,5 @@
 -- Worked examples: what happened, and who waits by that. Document 02, L7.
-use Rattle.std.specs.Prelude.{◌≡◌, List, [], ◌∷◌}
+use Rattle.std.specs.Prelude.{◌≡◌, [], ◌∷◌}
 use Rattle.line.specs.Samples.{one}
 use Rattle.passes.specs.Events.{joins, withdraws, admitted, granted, waiting_after}
 

@@ -1,4 +1,2 @@
 pub mod ByValue
-pub mod Front
 pub mod Moves
-pub mod Performing

@@ -1,24 +1,23 @@
 // The reserve's calls over a lent table, a lent line and a lent list of moves.
 #![tactic(auto)]
 
-ghost use Rattle.std.specs.Prelude.{◌≡◌, ◌++◌, ◌≤◌, ◌<◌, length, get_or, drop};
-ghost use Rattle.plans.specs.Plan.{moves_in, no_move};
+ghost use Rattle.std.specs.Prelude.{◌≡◌, ◌++◌, ◌≤◌, length, drop};
+ghost use Rattle.plans.specs.Plan.{moves_in};
 ghost use Rattle.admission.specs.Step.{step};
 ghost use Rattle.admission.specs.Value.{requested, lent, GivesAdmitted};
 ghost use Rattle.planner.specs.Performed.{Performed};
 
 use admission::{Admitted, Request};
 use granting::run;
-use line::Named;
 use plans::Plan;
-use rules::Answer;
+use refusal::Refusal;
 use table::Move;
 
-// What a call reports: its answer, whom an admit granted, and how many moves stand in the list.
+// What an accepted call reports: whom an admit granted, the node that the tenant has now or gave up, and how many moves stand in the list.
 #[derive(Clone, Copy)]
 pub struct Report {
-    pub answer: Answer,
-    pub named: Named,
+    pub tenant: Option<u16>,
+    pub node: u16,
     pub moves: usize,
 }
 
@@ -29,18 +28,17 @@ pub fn perform(
     line: &mut [u16],
     moves: &mut [Move],
     request: Request,
-) -> Report
+) -> Result<Report, Refusal>
     ensures { Performed height request table.old line.old moves.old
         result table.new line.new moves.new }
 {
-    let admitted = run(height, table, line, moves.len(), request);
-    let plan = admitted.plan;
-    fill(plan, moves);
-    Report {
-        answer: admitted.answer,
-        named: admitted.named,
-        moves: plan.n,
-    }
+    let admitted = run(height, table, line, moves.len(), request)?;
+    fill(admitted.plan, moves);
+    Ok(Report {
+        tenant: admitted.tenant,
+        node: admitted.node,
+        moves: admitted.plan.n,
+    })
 }
 
 // Runs a call on a list of so many entries, and hands its moves back by value: for callers that lend no list.
@@ -50,7 +48,7 @@ pub fn perform_by_value(
     line: &mut [u16],
     entries: usize,
     request: Request,
-) -> Admitted
+) -> Result<Admitted, Refusal>
     ensures { GivesAdmitted (step height (lent table.old line.old) (requested request entries))
         result table.new line.new }
 {
@@ -61,26 +59,25 @@ pub fn perform_by_value(
 }
 
 // Runs a call on a list of its own, of seven entries, which are enough for any call, and hands its moves back by value.
-fn perform_on_seven(height: u16, table: &mut [u16], line: &mut [u16], request: Request) -> Admitted
+fn perform_on_seven(
+    height: u16,
+    table: &mut [u16],
+    line: &mut [u16],
+    request: Request,
+) -> Result<Admitted, Refusal>
     ensures { GivesAdmitted (step height (lent table.old line.old) (requested request 7))
         result table.new line.new }
 {
-    let unused = Move {
-        tenant: 0,
-        from: 0,
-        to: 0,
-        staged: 0,
-    };
-    let mut list = [unused; 7];
-    let report = perform(height, table, line, &mut list, request);
-    Admitted {
-        answer: report.answer,
-        named: report.named,
+    let mut moves = Plan::none().moves;
+    let report = perform(height, table, line, &mut moves, request)?;
+    Ok(Admitted {
+        tenant: report.tenant,
+        node: report.node,
         plan: Plan {
             n: report.moves,
-            moves: list,
+            moves,
         },
-    }
+    })
 }
 
 // Puts the moves of a plan at the front of the list, and leaves the entries after them.
@@ -89,18 +86,5 @@ fn fill(plan: Plan, moves: &mut [Move])
     ensures { moves.new ≡ moves_in plan ++ drop plan.n moves.old }
 {
     let n = plan.n;
-    let mut i = 0;
-    while i < n {
-        moves[i] = move_at(plan, i);
-        i += 1;
-    }
-}
-
-// A move of a plan.
-fn move_at(plan: Plan, i: usize) -> Move
-    requires { i < 7 }
-    ensures { result ≡ get_or plan.moves i no_move }
-{
-    let moves = plan.moves;
-    moves[i]
+    moves[..n].copy_from_slice(&plan.moves[..n]);
 }

@@ -5,7 +5,7 @@ use Prim.Native.Nat.{ℕ, suc, ◌+◌, ◌-◌, ◌<◌}
 use native.Mathlib.Omega.{arith}
 use lib.ListN.{length, set, replicate, length-append}
 use lib.Seq.{take-append_seam, set-append_seam}
-use Rattle.plans.specs.Plan.{moves_in, no_move, plan_of}
+use Rattle.plans.specs.Plan.{moves_in, no_move, plan_of, with_move}
 use Rattle.table.specs.declared.Move.{Move}
 use Rattle.plans.specs.declared.Plan.{Plan}
 
@@ -24,7 +24,7 @@ module _ (p : Plan) (ms : List Move) (e : p ≡ plan_of ms) where
 
 -- one move more takes the place of the first entry that holds none
 one_move_more : (ms : List Move) (m : Move) → length ms < 7
-    → record { n = length ms + 1; moves = set (plan_of ms).moves (length ms) m } ≡ plan_of (ms ++ (m ∷ []))
+    → with_move (plan_of ms) m ≡ plan_of (ms ++ (m ∷ []))
 one_move_more ms m few = λ i. record { n = count i; moves = moves i }
   where
     count : length ms + 1 ≡ length (ms ++ (m ∷ []))
@@ -40,7 +40,7 @@ one_move_more ms m few = λ i. record { n = count i; moves = moves i }
         ∙ sym (append_assoc ms (m ∷ []) (replicate (7 - length (ms ++ (m ∷ []))) no_move))
 
 pub pushed_at_end : (p : Plan) (m : Move) → p.n < 7 → p ≡ plan_of (moves_in p)
-    → record { n = p.n + 1; moves = set p.moves p.n m } ≡ plan_of (moves_in p ++ (m ∷ []))
+    → with_move p m ≡ plan_of (moves_in p ++ (m ∷ []))
 pushed_at_end p m few e =
-    ap {B = Plan} (λ (q : Plan). record { n = q.n + 1; moves = set q.moves q.n m }) e
+    ap (λ (q : Plan). with_move q m) e
     ∙ one_move_more (moves_in p) m (omega (arith, count_in_plan_of p (moves_in p) e))

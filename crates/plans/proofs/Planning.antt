@@ -14,8 +14,8 @@ use Rattle.tree.specs.Held.{Nodes}
 use Rattle.layout.specs.Rows.{no_index, holds_node}
 use Rattle.layout.specs.declared.Layout.{Layout}
 use Rattle.table.specs.Pairing.{shifts_from, shifts, newcomer}
-use Rattle.plans.specs.Plan.{row_holds, only_from, moves_in, plan_of, nodes_at, spare_index, move_of, Shiftable, LevelShifted}
-use Rattle.plans.specs.Plan.{node_on, nodes_but, shifts_at, shifts_of, newcomer_on, Plannable, LevelPlanned, AllPlanned}
+use Rattle.plans.specs.Plan.{row_holds, only_from, moves_in, plan_of, nodes_at, level_shifts, spare_index, move_of, Shiftable, LevelShifted}
+use Rattle.plans.specs.Plan.{row_of, index_on, node_on, nodes_but, shifts_at, shifts_of, newcomer_on, Plannable, LevelPlanned, AllPlanned}
 use Rattle.plans.specs.declared.Row.{Row}
 use Rattle.plans.specs.declared.Shifted.{Shifted}
 use Rattle.plans.specs.declared.Planned.{Planned}
@@ -51,7 +51,7 @@ node_of_index b (x ∷ xs) zero below = rw (ne_eqb x no_index (omega (arith, bel
 node_of_index b (x ∷ xs) (suc k) below = node_of_index b xs k (λ q. below (omega arith))
 
 module _ {h : ℕ} {old new : Layout} {gone : ℕ} {owners : List ℕ} (p : Plannable h old new gone owners) (l : ℕ) (q : l ≤ h) where
-  pub level_shiftable : Shiftable (2 ^ (h - l)) (old_row h old gone l) (new_row new l) owners
+  level_shiftable : Shiftable (2 ^ (h - l)) (old_row h old gone l) (new_row new l) owners
   level_shiftable =
       record {
         old_fits = omega (arith, (p.old_within l q).run_within, few_nodes p l q);
@@ -62,7 +62,7 @@ module _ {h : ℕ} {old new : Layout} {gone : ℕ} {owners : List ℕ} (p : Plan
         takes = λ i r e. let s = row_index (new_row_holds p l q) i r e in omega (arith, few_nodes p l q);
       }
 
-  pub spare_fits : (s : ℕ) → s ≡ spare_index (old_row h old gone l) (new_row new l) → s < no_index → 2 ^ (h - l) + s < 2 ^ 16
+  spare_fits : (s : ℕ) → s ≡ spare_index (old_row h old gone l) (new_row new l) → s < no_index → 2 ^ (h - l) + s < 2 ^ 16
   spare_fits s e some =
       let spare = spare_held (old_row h old gone l) (new_row new l) (omega arith) in
       omega (arith, row_index (new_row_holds p l q) (spare_index (old_row h old gone l) (new_row new l)) spare.0 spare.1, few_nodes p l q)
@@ -76,7 +76,7 @@ module _ {h : ℕ} {old new : Layout} {gone : ℕ} {owners : List ℕ} (p : Plan
       (node_of_index (2 ^ (h - l)) (only_from (new_row new l) (old_row h old gone l) 0) k
       (λ r. (only_listed (new_row new l) (old_row h old gone l) 0 (omega arith) k no_index r).0))
 
-  pub level_planned : (x : ℕ) (below : Planned) (s : Shifted)
+  level_planned : (x : ℕ) (below : Planned) (s : Shifted)
       → LevelShifted (2 ^ (h - l)) (old_row h old gone l) (new_row new l) owners below.plan s
       → (n : ℕ) → n ≡ cond (eqb l x) (node_on (2 ^ (h - l)) s.spare) below.node
       → LevelPlanned h old new gone l x owners below (record { plan = s.plan; node = n })
@@ -173,3 +173,27 @@ module _ {h : ℕ} {old new : Layout} {gone x : ℕ} {owners : List ℕ} {sofar 
       by_level : Dec (h < x) → cond (ltb x l) (newcomer_on h old new gone x) 0 ≡ newcomer_on h old new gone x
       by_level (yes r) = rw (le-ltb x l (omega (arith, s.in_height)), lt-leb x h r)
       by_level (no r) = rw (lt-ltb x l (omega arith))
+
+-- ---- a level's rows
+
+-- The numbers of level l as they are computed: its first node b, the index i of the node given up, the row v of the old layout and the row w of
+-- the new one.
+module _ {h : ℕ} {old new : Layout} {gone : ℕ} {owners : List ℕ} (p : Plannable h old new gone owners) {l b i : ℕ} {v w : Row}
+    (q : l ≤ h) (base : b ≡ 2 ^ (h - l)) (hole : i ≡ index_on b gone) (old_is : v ≡ row_of old l i) (new_is : w ≡ row_of new l no_index) where
+  old_is_row : v ≡ old_row h old gone l
+  old_is_row = old_is ∙ ap (row_of old l) (hole ∙ ap (λ (m : ℕ). index_on m gone) base)
+
+  pub rows_shiftable : Shiftable b v w owners
+  rows_shiftable = rw (base, old_is_row, new_is) (level_shiftable p l q)
+
+  pub rows_shifts : level_shifts b v w ≡ shifts_at h old new gone l
+  rows_shifts = rw (base, old_is_row, new_is) (level_shifts_are p l q)
+
+  pub rows_spare_fits : (s : ℕ) → s ≡ spare_index v w → s < no_index → b + s < 2 ^ 16
+  rows_spare_fits s e some = rw base (spare_fits p l q s (rw (old_is_row, new_is) at e) some)
+
+  pub rows_planned : {x n : ℕ} {below : Planned} {s : Shifted} → Planning h old new gone x owners below l → LevelShifted b v w owners below.plan s
+      → n ≡ cond (eqb l x) (node_on b s.spare) below.node → Planning h old new gone x owners (record { plan = s.plan; node = n }) (l + 1)
+  rows_planned {x} {n} {below} {s} sofar t e =
+      planning_goes_on sofar _ q
+      (level_planned p l q x below s (rw (base, old_is_row, new_is) at t) n (e ∙ ap (λ (m : ℕ). cond (eqb l x) (node_on m s.spare) below.node) base))

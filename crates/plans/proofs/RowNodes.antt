@@ -134,11 +134,13 @@ module _ {h : ℕ} {old new : Layout} {gone : ℕ} {owners : List ℕ} (p : Plan
         none_past = λ i. none_past_level (2 ^ (h - l)) new l no_index i (p.new_within l q);
       }
 
-  pub level_leavers : nodes_at (2 ^ (h - l)) (only_from (old_row h old gone l) (new_row new l) 0) ≡ leavers h (nodes_but h old gone) (holds_node new h) l
+  pub level_leavers : nodes_at (2 ^ (h - l)) (only_from (old_row h old gone l) (new_row new l) 0)
+      ≡ leavers h (nodes_but h old gone) (holds_node new h) l
   unfolding leavers
   level_leavers = only_nodes _ _ _ _ _ (omega (arith, few_nodes)) old_row_holds new_row_holds
 
-  pub level_places : nodes_at (2 ^ (h - l)) (only_from (new_row new l) (old_row h old gone l) 0) ≡ places h (nodes_but h old gone) (holds_node new h) l
+  pub level_places : nodes_at (2 ^ (h - l)) (only_from (new_row new l) (old_row h old gone l) 0)
+      ≡ places h (nodes_but h old gone) (holds_node new h) l
   unfolding places
   level_places = only_nodes _ _ _ _ _ (omega (arith, few_nodes)) new_row_holds old_row_holds
 

@@ -1,22 +1,20 @@
 -- One level's moves: what is paired after each turn of the loop over the two rows, and that at its end everything is.
 use mathlib.Core.Path.{◌≡◌, refl, sym, ap, ◌∙◌}
-use mathlib.Core.Bool.{Bool, true, false, not, and-eq-true_iff, and-not_self}
+use mathlib.Core.Bool.{Bool, true, false, and-not_self}
 use mathlib.Core.Logic.{◌⊎◌, inl, inr}
 use mathlib.Core.List.{List, [], ◌∷◌, ◌++◌, map, append-nil, append_assoc}
 use Prim.Native.Nat.{ℕ, suc, ◌+◌, ◌≤◌, ◌<◌}
 use native.Mathlib.Numerals.{add-one}
 use native.Mathlib.Omega.{arith}
-use borrow.Author.Tests.{eqb-true}
-use lib.Dec.{eqb}
 use lib.ListN.{length, get_or, length-append}
 use Rattle.layout.specs.Rows.{no_index, up_from}
 use Rattle.table.specs.Pairing.{keep, Shift, pair}
-use Rattle.plans.specs.Plan.{row_holds, same_row, only_in, only_from, least_only, moves_in, plan_of, nodes_at, level_shifts, spare_index, move_of}
+use Rattle.plans.specs.Plan.{row_holds, only_in, only_from, least_only, moves_in, plan_of, with_move, nodes_at, level_shifts, spare_index, move_of}
 use Rattle.plans.specs.Plan.{LevelShifted}
 use Rattle.plans.specs.declared.Row.{Row}
 use Rattle.plans.specs.declared.Plan.{Plan}
 use Rattle.table.specs.declared.Move.{Move}
-use Rattle.plans.proofs.PlanOf.{moves_in_plan_of, count_in_plan_of, made_of_its_moves}
+use Rattle.plans.proofs.PlanOf.{moves_in_plan_of, count_in_plan_of, made_of_its_moves, pushed_at_end}
 use Rattle.plans.proofs.LeastIndex.{Found, least_found, only_none, only_cons, only_from_least, found_is_least}
 
 from_zero : {p : ℕ → Bool} {a b : ℕ} → Found p a b → Found p 0 b
@@ -66,20 +64,14 @@ module _ (b : ℕ) (v w : Row) where
       })
 
 module _ {b : ℕ} {v w : Row} {owners : List ℕ} {before plan : Plan} {i j : ℕ} (s : Shifting b v w owners before plan i j) where
-  pub left_holds : i < no_index → (row_holds v i ≡ true) × (not (row_holds w i) ≡ true)
-  left_holds q = (and-eq-true_iff (row_holds v i) (not (row_holds w i))).0 (s.next_left.passes q)
-
-  pub place_holds : j < no_index → (row_holds w j ≡ true) × (not (row_holds v j) ≡ true)
-  place_holds q = (and-eq-true_iff (row_holds w j) (not (row_holds v j))).0 (s.next_place.passes q)
-
   pub room_left : i < no_index → j < no_index → plan.n < before.n + length (level_shifts b v w)
   room_left q r = rw (← s.count, rest_cons b v w i j q (s.next_left.passes q) r (s.next_place.passes r)) (omega arith)
 
-  pub shifting_goes_on : (after : Plan) (i' j' : ℕ) → i < no_index → j < no_index
-      → after ≡ plan_of (moves_in plan ++ (move_of owners (shift_at b i j) ∷ []))
+  pub shifting_goes_on : (after : Plan) (i' j' : ℕ) → before.n + length (level_shifts b v w) ≤ 7 → i < no_index → j < no_index
+      → after ≡ with_move plan (move_of owners (shift_at b i j))
       → i' ≡ least_only v w (i + 1) → j' ≡ least_only w v (j + 1) → Shifting b v w owners before after i' j'
   unfolding rest_shifts
-  shifting_goes_on after i' j' q r pushed e f =
+  shifting_goes_on after i' j' few q r written e f =
       let left : only_from v w i' ≡ only_from v w (suc i) = rw (e, add-one) (only_from_least v w (suc i) (omega arith)) in
       let places : only_from w v j' ≡ only_from w v (suc j) = rw (f, add-one) (only_from_least w v (suc j) (omega arith)) in
       let opened = rest_cons b v w i j q (s.next_left.passes q) r (s.next_place.passes r) in
@@ -97,6 +89,9 @@ module _ {b : ℕ} {v w : Row} {owners : List ℕ} {before plan : Plan} {i j : �
     where
       longer : List Move
       longer = moves_in plan ++ (move_of owners (shift_at b i j) ∷ [])
+
+      pushed : after ≡ plan_of longer
+      pushed = written ∙ pushed_at_end plan (move_of owners (shift_at b i j)) (omega (arith, few, room_left q r)) s.whole
 
       one_more : after.n ≡ plan.n + 1
       one_more =
@@ -131,24 +126,10 @@ only_in_itself : (v : Row) → only_from v v 0 ≡ []
 unfolding only_from
 only_in_itself v = keep_none (only_in v v) (up_from 0 no_index) (λ i. and-not_self (row_holds v i))
 
-same_row_is : (v w : Row) → same_row v w ≡ true → v ≡ w
-same_row_is v w e =
-    let most = (and-eq-true_iff _ (eqb v.hole w.hole)).0 e in
-    let runs = (and-eq-true_iff _ (eqb v.lone w.lone)).0 most.0 in
-    let starts = (and-eq-true_iff (eqb v.start w.start) (eqb v.run w.run)).0 runs.0 in
-    let start = eqb-true v.start w.start starts.0 in
-    let run = eqb-true v.run w.run starts.1 in
-    let lone = eqb-true v.lone w.lone runs.1 in
-    let hole = eqb-true v.hole w.hole most.1 in
-    λ i. record { start = start i; run = run i; lone = lone i; hole = hole i }
-
-unshifted : (b : ℕ) (v : Row) (owners : List ℕ) (plan : Plan) → plan ≡ plan_of (moves_in plan)
-    → LevelShifted b v v owners plan (record { plan = plan; spare = no_index })
-unfolding level_shifts spare_index
-unshifted b v owners plan whole =
-    let none = only_in_itself v in
-    record { plan = rw (none, append-nil) whole; spare = rw none }
-
-pub same_row_unshifted : (b : ℕ) (v w : Row) (owners : List ℕ) (plan : Plan) → plan ≡ plan_of (moves_in plan) → same_row v w ≡ true
+pub unshifted : (b : ℕ) (v w : Row) (owners : List ℕ) (plan : Plan) → plan ≡ plan_of (moves_in plan) → v ≡ w
     → LevelShifted b v w owners plan (record { plan = plan; spare = no_index })
-same_row_unshifted b v w owners plan whole e = rw (← same_row_is v w e) (unshifted b v owners plan whole)
+unfolding level_shifts spare_index
+unshifted b v w owners plan whole e =
+    rw (← e)
+    (let none = only_in_itself v in
+    record { plan = rw (none, append-nil) whole; spare = rw none })

@@ -1,5 +1,6 @@
 -- The planner's view of a level: a row of blocks by index, what is in one row and not in another, and the list of moves.
-use Rattle.std.specs.Prelude.{◌≡◌, Bool, true, not, ◌&&◌, cond, List, ◌++◌, map, ℕ, ◌+◌, ◌-◌, ◌^◌, ◌≤◌, ◌<◌, eqb, leb, ltb, get_or, length, take, replicate}
+use Rattle.std.specs.Prelude.{◌≡◌, Bool, true, not, ◌&&◌, cond, List, ◌++◌, map, ℕ, ◌+◌, ◌-◌, ◌^◌, ◌≤◌, ◌<◌}
+use Rattle.std.specs.Prelude.{slice_set, eqb, leb, ltb, get_or, length, take, replicate}
 use Rattle.tree.specs.Held.{Nodes}
 use Rattle.layout.specs.Rows.{no_index, start_at, run_at, lone_at, in_row, holds_node, up_from}
 use Rattle.layout.specs.declared.Layout.{Layout}
@@ -17,10 +18,6 @@ row_holds w i = in_row w.start w.run w.lone i && not (eqb i w.hole)
 -- the index behind another; none behind none
 abbrev pub after : ℕ → ℕ
 after i = cond (eqb i no_index) no_index (i + 1)
-
--- two rows with the same numbers
-abbrev pub same_row : Row → Row → Bool
-same_row v w = eqb v.start w.start && eqb v.run w.run && eqb v.lone w.lone && eqb v.hole w.hole
 
 -- index i is in the one row and not in the other
 abbrev pub only_in : Row → Row → ℕ → Bool
@@ -49,6 +46,10 @@ no_move = record { tenant = 0; from = 0; to = 0; staged = 0 }
 -- the plan of at most seven moves: its entries after them hold no move
 abbrev pub plan_of : List Move → Plan
 plan_of ms = record { n = length ms; moves = ms ++ replicate (7 - length ms) no_move }
+
+-- the plan with the move m written behind its moves
+abbrev pub with_move : Plan → Move → Plan
+with_move p m = record { n = p.n + 1; moves = slice_set p.moves p.n m }
 
 -- the nodes with the given indices on the level whose first node is b
 abbrev pub nodes_at : ℕ → List ℕ → List ℕ

@@ -4,15 +4,16 @@
 
 ghost use Rattle.std.specs.Prelude.{◌≡◌, [], ◌∷◌, ◌++◌, ◌+◌, ◌^◌, ◌≤◌, ◌<◌, length, get_or};
 ghost use Rattle.layout.specs.Rows.{no_index};
-ghost use Rattle.plans.specs.Plan.{row_holds, same_row, after as Plan·after, only_in, better_of, least_only, moves_in, plan_of};
+ghost use Rattle.plans.specs.Plan.{row_holds, after as Plan·after, only_in, better_of, least_only, moves_in, plan_of, with_move};
 ghost use Rattle.plans.specs.Plan.{move_of, level_shifts, Shiftable, LevelShifted};
-ghost use Rattle.plans.specs.Plan.{row_of, index_on, node_on, shifts_at, Plannable, LevelPlanned, AllPlanned};
+ghost use Rattle.plans.specs.Plan.{row_of, index_on, node_on, Plannable, AllPlanned};
 
 use layout::{Layout, NONE};
 use table::{Move, NODES};
 
 // The blocks of one level by index: the `run` indices from `start` on, and `lone`, but not `hole`. NONE for no lone block, and for no hole.
-#[derive(Clone, Copy)]
+// No Option in place of NONE: layout::Layout has it too, and as the highest index `better` compares it like any other.
+#[derive(Clone, Copy, PartialEq, Eq)]
 pub struct Row {
     pub start: u16,
     pub run: u16,
@@ -22,29 +23,11 @@ pub struct Row {
 
 impl Row {
     // Whether the block with this index is in the row.
+    #[tactic(auto, unfolding(crate::specs::Plan::row_holds))]
     fn holds(self, index: u16) -> bool
         ensures { result ≡ row_holds self index }
     {
-        if index == self.hole {
-            return false;
-        }
-        layout::in_row(self.start, self.run, self.lone, index)
-    }
-
-    // Whether the rows have the same numbers.
-    fn same(self, other: Row) -> bool
-        ensures { result ≡ same_row self other }
-    {
-        if self.start != other.start {
-            return false;
-        }
-        if self.run != other.run {
-            return false;
-        }
-        if self.lone != other.lone {
-            return false;
-        }
-        self.hole == other.hole
+        index != self.hole && layout::in_row(self.start, self.run, self.lone, index)
     }
 }
 
@@ -52,29 +35,19 @@ impl Row {
 fn after(index: u16) -> u16
     ensures { result ≡ Plan·after index }
 {
-    if index == NONE {
-        return NONE;
-    }
-    index + 1
+    index.saturating_add(1)
 }
 
 // The candidate, if it is at least `from`, less than `best`, in `old` and not in `new`; else `best`.
+#[tactic(auto, unfolding(crate::specs::Plan::better_of))]
 fn better(old: Row, new: Row, from: u16, candidate: u16, best: u16) -> u16
     ensures { result ≡ better_of (only_in old new) from candidate best }
 {
-    if candidate < from {
-        return best;
+    if candidate < from || best <= candidate || new.holds(candidate) || !old.holds(candidate) {
+        best
+    } else {
+        candidate
     }
-    if best <= candidate {
-        return best;
-    }
-    if new.holds(candidate) {
-        return best;
-    }
-    if old.holds(candidate) {
-        return candidate;
-    }
-    best
 }
 
 // The least index from `from` on that is in `old` and not in `new`; NONE if there is none. Behind an index that is not of that kind, the next one
@@ -93,6 +66,7 @@ fn least(old: Row, new: Row, from: u16) -> u16
 }
 
 // At most seven moves, in order: the first `n` entries. The others hold zeros.
+// No invariant of the type says so: lines::line and image::put_moves take any plan.
 #[derive(Clone, Copy)]
 pub struct Plan {
     pub n: usize,
@@ -116,15 +90,17 @@ impl Plan {
         }
     }
 
-    // The plan with one move more, at the end.
+    // The plan with one move more, at the end: `pushed_at_end` says what that is where the spare entries hold zeros.
     pub fn push(self, m: Move) -> Plan
-        requires { (self.n < 7) × (self ≡ plan_of (moves_in self)) }
-        ensures { result ≡ plan_of (moves_in self ++ (m ∷ [])) }
+        requires { self.n < 7 }
+        ensures { result ≡ with_move self m }
     {
-        let at = self.n;
         let mut moves = self.moves;
-        moves[at] = m;
-        Plan { n: at + 1, moves }
+        moves[self.n] = m;
+        Plan {
+            n: self.n + 1,
+            moves,
+        }
     }
 }
 
@@ -150,12 +126,15 @@ pub struct Shifted {
 
 // The plan with the moves from one row to another at its end: the blocks that are in `old` and not in `new` go, left to right, to the places
 // that are in `new` and not in `old`; spare is the first place left over. The level's first node is `base`, and `owners` has each node's tenant
-// and one.
+// and one. A level that stays as it was, as most do, is not searched.
 fn shift_rows(plan: Plan, base: u16, old: Row, new: Row, owners: &[u16; NODES]) -> Shifted
     requires rows { Shiftable base old new owners.now }
     requires room { (plan.n + length (level_shifts base old new) ≤ 7) × (plan ≡ plan_of (moves_in plan)) }
     ensures { LevelShifted base old new owners.now plan result }
 {
+    if old == new {
+        return Shifted { plan, spare: NONE };
+    }
     let mut plan = plan;
     let mut i = least(old, new, 0);
     let mut j = least(new, old, 0);
@@ -167,31 +146,16 @@ fn shift_rows(plan: Plan, base: u16, old: Row, new: Row, owners: &[u16; NODES]) 
     Shifted { plan, spare: j }
 }
 
-// The same as `shift_rows`, but a level that stays as it was, as most do, is not searched.
-fn shift_level(plan: Plan, base: u16, old: Row, new: Row, owners: &[u16; NODES]) -> Shifted
-    requires rows { Shiftable base old new owners.now }
-    requires room { (plan.n + length (level_shifts base old new) ≤ 7) × (plan ≡ plan_of (moves_in plan)) }
-    ensures { LevelShifted base old new owners.now plan result }
-{
-    if old.same(new) {
-        return Shifted { plan, spare: NONE };
-    }
-    shift_rows(plan, base, old, new, owners)
-}
-
 // The row of one level of a layout, with a hole.
 fn row_of(rows: Layout, level: u16, hole: u16) -> Row
     requires { level ≤ 12 }
     ensures { result ≡ row_of rows level hole }
 {
     let l = level as usize;
-    let starts = rows.start;
-    let runs = rows.run;
-    let lones = rows.lone;
     Row {
-        start: starts[l],
-        run: runs[l],
-        lone: lones[l],
+        start: rows.start[l],
+        run: rows.run[l],
+        lone: rows.lone[l],
         hole,
     }
 }
@@ -200,14 +164,11 @@ fn row_of(rows: Layout, level: u16, hole: u16) -> Row
 fn index_on(base: u16, node: u16) -> u16
     ensures { result ≡ index_on base node }
 {
-    if node < base {
-        return NONE;
+    if base <= node && node - base < base {
+        node - base
+    } else {
+        NONE
     }
-    let index = node - base;
-    if base <= index {
-        return NONE;
-    }
-    index
 }
 
 // The node with an index on the level whose first node is `base`; 0 for NONE.
@@ -215,10 +176,7 @@ fn node_on(base: u16, index: u16) -> u16
     requires { index < no_index → base + index < 2 ^ 16 }
     ensures { result ≡ node_on base index }
 {
-    if index == NONE {
-        return 0;
-    }
-    base + index
+    if index == NONE { 0 } else { base + index }
 }
 
 // Moves, and the newcomer's node, or 0.
@@ -226,38 +184,6 @@ fn node_on(base: u16, index: u16) -> u16
 pub struct Planned {
     pub plan: Plan,
     pub node: u16,
-}
-
-// What was planned for the levels below, with one level more: its moves, and the newcomer's node if it is the level wanted.
-fn plan_level(
-    below: Planned,
-    height: u16,
-    level: u16,
-    old: Layout,
-    new: Layout,
-    gone: u16,
-    wanted: u16,
-    owners: &[u16; NODES],
-) -> Planned
-    requires rows { Plannable height old new gone owners.now }
-    requires level { level ≤ height }
-    requires room { (below.plan.n + length (shifts_at height old new gone level) ≤ 7) × (below.plan ≡ plan_of (moves_in below.plan)) }
-    ensures { LevelPlanned height old new gone level wanted owners.now below result }
-{
-    let base = layout::power(height - level);
-    let plan = below.plan;
-    let from = row_of(old, level, index_on(base, gone));
-    let to = row_of(new, level, NONE);
-    let s = shift_level(plan, base, from, to, owners);
-    let plan = s.plan;
-    if level != wanted {
-        return Planned {
-            plan,
-            node: below.node,
-        };
-    }
-    let node = node_on(base, s.spare);
-    Planned { plan, node }
 }
 
 // The moves that bring everybody from the old layout, without the node `gone` (0 for none), into the new one, by level from 0 up and left to
@@ -277,10 +203,17 @@ pub fn plan_moves(
         plan: Plan::none(),
         node: 0,
     };
-    let mut level: u16 = 0;
-    while level <= height {
-        sofar = plan_level(sofar, height, level, old, new, gone, wanted, owners);
-        level += 1;
+    for level in 0..=height {
+        let base = layout::power(height - level);
+        let from = row_of(old, level, index_on(base, gone));
+        let to = row_of(new, level, NONE);
+        let s = shift_rows(sofar.plan, base, from, to, owners);
+        let node = if level == wanted {
+            node_on(base, s.spare)
+        } else {
+            sofar.node
+        };
+        sofar = Planned { plan: s.plan, node };
     }
     sofar
 }

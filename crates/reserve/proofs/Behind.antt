@@ -12,13 +12,13 @@ use lib.ListN.{length, take, drop, replicate}
 use Rattle.line.specs.Line.{triples, line_of}
 use Rattle.rules.specs.Step.{first}
 use Rattle.rules.specs.Call.{grant_level, grant_pages}
-use Rattle.rules.specs.Value.{number_of, answer_of}
-use Rattle.rules.specs.declared.Answer.{Answer}
-use Rattle.rules.proofs.Given.{number_of_answer}
+use Rattle.std.specs.Prelude.{Result}
+use Rattle.refusal.specs.declared.Refusal.{Refusal}
+use Rattle.refusal.specs.Number.{number_in}
 use Rattle.admission.specs.Call.{State, Call, direct, join, admit, withdraw}
-use Rattle.admission.specs.Step.{lent_checks, Outcome as Done, on_table, checks, accepted, unless, step, reserve_checks, open_reserve}
-use Rattle.admission.specs.Value.{requested, lent, admitted_of, GivesAdmitted}
-use Rattle.admission.proofs.Handed.{step_no_node, handed_back}
+use Rattle.admission.specs.Step.{lent_checks, Outcome as StateOutcome, on_table, checks, accepted, unless, step, reserve_checks, open_reserve}
+use Rattle.admission.specs.Value.{requested, lent, plan_in, admitted_of, GivesAdmitted}
+use Rattle.admission.proofs.Handed.{handed_back}
 use Rattle.admission.specs.declared.Admitted.{Admitted}
 use Rattle.admission.proofs.Arguments.{Lengths, lengths_passed}
 use Rattle.plans.proofs.PlanOf.{count_in_plan_of}
@@ -26,16 +26,12 @@ use Rattle.planner.proofs.Moves.{moves_few, moves_fit}
 use Rattle.admission.specs.declared.Request.{Request}
 use Rattle.image.proofs.Images.{lent_as_none, lent_as_all, numbers_length, image_of_zeros}
 use Rattle.image.specs.Image.{image_of, lent_as, table_of, line_in, Decoded}
-use Rattle.reserve.specs.Door.{bytes_after, state_in, tenant_number, ReportedAdmission, LineCalled, OpenedOn, TakesLine, by_level, by_pages}
-use Rattle.reserve.specs.Door.{an_admit}
+use Rattle.reserve.specs.Door.{bytes_after, state_in, entries_in, tenant_number, ReportedAdmission, LineCalled, OpenedOn, TakesLine}
+use Rattle.reserve.specs.Door.{by_level, by_pages, an_admit}
 use Rattle.reserve.specs.Values.{changing}
 use Rattle.reserve.specs.declared.Admission.{Admission}
 use Rattle.reserve.specs.declared.Change.{Change}
 use Rattle.reserve.proofs.Reports.{Through, array_length, image_length_done, array_done, whole_bytes, front_table, same_report}
-
--- the number of an answer without a node
-pub answer_number : (a : Answer) (k r : ℕ) → a ≡ answer_of k 0 → r ≡ number_of a → r ≡ k
-answer_number a k r given named = named ∙ ap number_of given ∙ number_of_answer k 0
 
 -- ---- what a call that is done has been lent
 
@@ -51,7 +47,7 @@ pub opening_lengths : (h : ℕ) (S : State) → (open_reserve h S).answer ≡ 0 
 unfolding open_reserve
 opening_lengths h S e = lengths_passed h (length S.table) (length S.line) [] (go (first (reserve_checks h S)) refl e)
   where
-    done : Done
+    done : StateOutcome
     done = record { answer = 0; node = 0; named = none; moves = []; state = record { table = replicate 4096 0; line = line_of [] } }
 
     go : (n : ℕ) → first (reserve_checks h S) ≡ n → (unless n S done).answer ≡ 0 → first (reserve_checks h S) ≡ 0
@@ -92,9 +88,6 @@ module _ (N answer : ℕ) (result bytes numbers after : List ℕ) (k : ℕ) (som
   through : Through N bytes numbers after k (answer ≡ 0)
   through = record { long = long; some_numbers = some_numbers; before = d; kept = kept; whole = whole }
 
-  pub bytes_refused : ¬ (answer ≡ 0) → bytes ≡ bytes_after answer result bytes
-  bytes_refused ne = rw (ne_eqb answer 0 ne)
-
   pub bytes_whole : answer ≡ 0 → length bytes ≡ 2 * length (after ++ drop k numbers)
   bytes_whole z = omega (arith, array_length through, image_length_done through z)
 
@@ -106,39 +99,41 @@ module _ (N answer : ℕ) (result bytes numbers after : List ℕ) (k : ℕ) (som
 
 -- ---- a call that changes the line
 
--- What a call f, on the fronts of two arrays, has answered and left of the line.
-module _ (f : State → Done) (h : ℕ) (image line nodes numbers after : List ℕ) (n k r : ℕ) (long : length nodes ≡ 4096) (long' : length numbers ≡ 193)
+pub lined_change : (change : Change) → Lined (changing change)
+lined_change (Change.Join t l) = a_join
+lined_change (Change.Withdraw t) = a_withdrawal
+
+-- What a join or a withdrawal that is done, on the fronts of two arrays, has left of the line.
+module _ (h : ℕ) (change : Change) {image line nodes numbers after : List ℕ} {n k : ℕ} (long : length nodes ≡ 4096) (long' : length numbers ≡ 193)
     (d : Decoded image nodes n) (d' : Decoded line numbers k) (kept : length after ≡ length (take k numbers))
-    (lengths : (f (state_in image line)).answer ≡ 0 → Lengths h (length (table_of image)) (length (line_in line)))
-    (answered : r ≡ (f (lent (take n nodes) (take k numbers))).answer) (changed : after ≡ (f (lent (take n nodes) (take k numbers))).state.line) where
+    (answered : 0 ≡ (step h (lent (take n nodes) (take k numbers)) (changing change)).answer)
+    (changed : after ≡ (step h (lent (take n nodes) (take k numbers)) (changing change)).state.line) where
+  abbrev changed_state : StateOutcome
+  changed_state = step h (state_in image line) (changing change)
+
   on_bytes : lent (take n nodes) (take k numbers) ≡ state_in image line
   on_bytes = state_read image line nodes numbers n k long long' d d'
 
-  pub answer_on_bytes : r ≡ (f (state_in image line)).answer
-  answer_on_bytes = answered ∙ ap (λ (S : State). (f S).answer) on_bytes
+  done_on_bytes : 0 ≡ changed_state.answer
+  done_on_bytes = answered ∙ ap (λ (S : State). (step h S (changing change)).answer) on_bytes
 
-  line_left : after ≡ (f (state_in image line)).state.line
-  line_left = changed ∙ ap (λ (S : State). (f S).state.line) on_bytes
+  line_left : after ≡ changed_state.state.line
+  line_left = changed ∙ ap (λ (S : State). (step h S (changing change)).state.line) on_bytes
 
-  pub line_refused : ¬ (r ≡ 0) → LineCalled (f (state_in image line)) line r line
-  line_refused ne = record {
-    answer = answer_on_bytes;
+  numbers_lent : changed_state.answer ≡ 0 → length (line_in line) ≡ 193
+  numbers_lent z = (done_lengths h (state_in image line) (changing change) (lined_change change) z).numbers
+
+  pub line_whole : length line ≡ 2 * length (after ++ drop k numbers)
+  line_whole =
+      bytes_whole 193 changed_state.answer changed_state.state.line line numbers after k (omega arith) long' d' kept numbers_lent line_left
+      (sym done_on_bytes)
+
+  pub line_done : {line' : List ℕ} → line' ≡ image_of (after ++ drop k numbers) → LineCalled changed_state line 0 line'
+  line_done {line'} e = record {
+    answer = done_on_bytes;
     line_bytes =
-        bytes_refused 193 (f (state_in image line)).answer (f (state_in image line)).state.line line numbers after k (omega arith) long' d' kept
-        (λ z. (lengths z).numbers) line_left (λ z. ne (answer_on_bytes ∙ z));
-  }
-
-  pub line_whole : r ≡ 0 → length line ≡ 2 * length (after ++ drop k numbers)
-  line_whole z =
-      bytes_whole 193 (f (state_in image line)).answer (f (state_in image line)).state.line line numbers after k (omega arith) long' d' kept
-      (λ w. (lengths w).numbers) line_left (sym answer_on_bytes ∙ z)
-
-  pub line_done : r ≡ 0 → (line' : List ℕ) → line' ≡ image_of (after ++ drop k numbers) → LineCalled (f (state_in image line)) line 0 line'
-  line_done z line' e = record {
-    answer = sym z ∙ answer_on_bytes;
-    line_bytes =
-        bytes_done 193 (f (state_in image line)).answer (f (state_in image line)).state.line line numbers after k (omega arith) long' d' kept
-        (λ w. (lengths w).numbers) line_left (sym answer_on_bytes ∙ z) line' e;
+        bytes_done 193 changed_state.answer changed_state.state.line line numbers after k (omega arith) long' d' kept numbers_lent line_left
+        (sym done_on_bytes) line' e;
   }
 
 -- ---- an opening, which only the lengths decide
@@ -155,9 +150,9 @@ empty_line : line_of [] ≡ replicate 193 0
 unfolding line_of triples
 empty_line = refl
 
-module _ (h : ℕ) (image line : List ℕ) (r n k : ℕ) (entries : n ≡ cond (eqb (length image) (2 * 4096)) 4096 0)
+module _ (h : ℕ) (image line : List ℕ) {r n k : ℕ} (entries : n ≡ cond (eqb (length image) (2 * 4096)) 4096 0)
     (numbers : k ≡ cond (eqb (length line) (2 * 193)) 193 0) (answered : r ≡ first (lent_checks h n k)) where
-  abbrev opening : Done
+  abbrev opening : StateOutcome
   opening = open_reserve h (state_in image line)
 
   first_met : r ≡ first (reserve_checks h (state_in image line))
@@ -169,7 +164,7 @@ module _ (h : ℕ) (image line : List ℕ) (r n k : ℕ) (entries : n ≡ cond (
   unfolding open_reserve
   answer_met = go (first (reserve_checks h (state_in image line))) first_met
     where
-      done : Done
+      done : StateOutcome
       done = record { answer = 0; node = 0; named = none; moves = []; state = record { table = replicate 4096 0; line = line_of [] } }
 
       go : (m : ℕ) → r ≡ m → r ≡ (unless m (state_in image line) done).answer
@@ -185,12 +180,12 @@ module _ (h : ℕ) (image line : List ℕ) (r n k : ℕ) (entries : n ≡ cond (
   unfolding open_reserve
   opened_state z = ap (λ (m : ℕ). (unless m (state_in image line) done).state) (sym first_met ∙ z)
     where
-      done : Done
+      done : StateOutcome
       done = record { answer = 0; node = 0; named = none; moves = []; state = record { table = replicate 4096 0; line = line_of [] } }
 
-  pub open_done : r ≡ 0 → (image' line' : List ℕ) → image' ≡ replicate (length image) 0 → line' ≡ replicate (length line) 0
+  pub open_done : r ≡ 0 → {image' line' : List ℕ} → image' ≡ replicate (length image) 0 → line' ≡ replicate (length line) 0
       → OpenedOn h image line 0 image' line'
-  open_done z image' line' e e' =
+  open_done z e e' =
       let zero_answer : opening.answer ≡ 0 = sym answer_met ∙ z in
       let long = opening_lengths h (state_in image line) zero_answer in
       let done = eq-eqb opening.answer 0 zero_answer in
@@ -204,15 +199,11 @@ module _ (h : ℕ) (image line : List ℕ) (r n k : ℕ) (entries : n ≡ cond (
             ∙ sym (ap (λ (S : State). image_of S.table) (opened_state z) ∙ image_of_zeros 4096));
       }
 
-pub lined_change : (change : Change) → Lined (changing change)
-lined_change (Change.Join t l) = a_join
-lined_change (Change.Withdraw t) = a_withdrawal
-
 -- ---- a report of what is handed back
 
 -- the same report of an outcome that differs, if at all, in the state of a refused call
-pub same_admission : (p o : Done) {image line list : List ℕ} {r : Admission} {image' line' list' : List ℕ} → p.answer ≡ o.answer → p.node ≡ o.node
-    → p.named ≡ o.named → p.moves ≡ o.moves → (p.answer ≡ 0 → p.state ≡ o.state)
+pub same_admission : (p o : StateOutcome) {image line list : List ℕ} {r : Admission} {image' line' list' : List ℕ}
+    → p.answer ≡ o.answer → p.node ≡ o.node → p.named ≡ o.named → p.moves ≡ o.moves → (p.answer ≡ 0 → p.state ≡ o.state)
     → ReportedAdmission p image line list r image' line' list' → ReportedAdmission o image line list r image' line' list'
 same_admission p o {line = line} a n t m s q = record {
   behind = record {
@@ -227,36 +218,33 @@ same_admission p o {line = line} a n t m s q = record {
     go (no ne) = rw (← a, ne_eqb p.answer 0 ne)
 
 -- the moves of a request go into a plan, and into the list that it was given
-module _ (h : ℕ) (S : State) (q : Request) (m : ℕ) (done : Admitted) {T L : List ℕ} (given : GivesAdmitted (step h S (requested q m)) done T L) where
-  moves_counted : done.plan.n ≡ length (step h S (requested q m)).moves
-  moves_counted = count_in_plan_of done.plan (step h S (requested q m)).moves given.plan
-
-  pub request_few : done.plan.n ≤ 7
-  request_few = omega (arith, moves_counted, moves_few h S q m)
-
-  pub request_fit : done.plan.n ≤ m
-  request_fit = omega (arith, moves_counted, moves_fit h S q m)
+pub request_room : (h : ℕ) (S : State) (q : Request) (list : List ℕ) {done : Result Admitted Refusal} {T L : List ℕ}
+    → GivesAdmitted (step h S (requested q (entries_in list))) done T L → ((plan_in done).n ≤ 7) × (8 * (plan_in done).n ≤ length list)
+request_room h S q list {done} given =
+    let m = entries_in list in
+    let counted = count_in_plan_of (plan_in done) (step h S (requested q m)).moves given.plan in
+    (omega (arith, counted, moves_few h S q m), omega (arith, counted, moves_fit h S q m))
 
 -- a request that was asked of the fronts of two arrays
-module _ (h : ℕ) (q : Request) (takes : TakesLine q) (m : ℕ) (done : Admitted) {image line nodes numbers T L : List ℕ} {n k : ℕ}
+module _ (h : ℕ) (q : Request) (takes : TakesLine q) (m : ℕ) {done : Result Admitted Refusal} {image line nodes numbers T L : List ℕ} {n k : ℕ}
     (long : length nodes ≡ 4096) (long' : length numbers ≡ 193) (d : Decoded image nodes n) (d' : Decoded line numbers k)
     (kept : length T ≡ length (take n nodes)) (kept' : length L ≡ length (take k numbers))
     (given : GivesAdmitted (step h (lent (take n nodes) (take k numbers)) (requested q m)) done T L) where
-  abbrev o : Done
+  abbrev o : StateOutcome
   o = step h (state_in image line) (requested q m)
 
   met : admitted_of done T L ≡ o
   met =
-      handed_back (step_no_node h (lent (take n nodes) (take k numbers)) (requested q m)) given
+      handed_back given
       ∙ ap (λ (S : State). step h S (requested q m)) (state_read image line nodes numbers n k long long' d d')
 
   lengths : o.answer ≡ 0 → Lengths h (length (table_of image)) (length (line_in line))
   lengths z = done_lengths h (state_in image line) (requested q m) (a_request q m takes) z
 
-  request_answer : number_of done.answer ≡ o.answer
-  request_answer = ap (λ (x : Done). x.answer) met
+  request_answer : number_in done ≡ o.answer
+  request_answer = ap (λ (x : StateOutcome). x.answer) met
 
-  pub request_whole : number_of done.answer ≡ 0
+  pub request_whole : number_in done ≡ 0
       → (length image ≡ 2 * length (T ++ drop n nodes)) × (length line ≡ 2 * length (L ++ drop k numbers))
   request_whole z =
       let zero = sym request_answer ∙ z in (
@@ -268,9 +256,9 @@ module _ (h : ℕ) (q : Request) (takes : TakesLine q) (m : ℕ) (done : Admitte
       → ReportedAdmission (admitted_of done (T ++ drop n nodes) (L ++ drop k numbers)) image line list r image' line' list'
       → ReportedAdmission o image line list r image' line' list'
   request_reported p =
-      same_admission (admitted_of done (T ++ drop n nodes) (L ++ drop k numbers)) o request_answer (ap (λ (x : Done). x.node) met)
-      (ap (λ (x : Done). x.named) met) (ap (λ (x : Done). x.moves) met)
+      same_admission (admitted_of done (T ++ drop n nodes) (L ++ drop k numbers)) o request_answer (ap (λ (x : StateOutcome). x.node) met)
+      (ap (λ (x : StateOutcome). x.named) met) (ap (λ (x : StateOutcome). x.moves) met)
       (λ z. ap₂ lent (numbers_done 4096 o.answer T image nodes T n (omega arith) long d kept (λ w. (lengths w).entries) refl
       (sym request_answer ∙ z))
       (numbers_done 193 o.answer L line numbers L k (omega arith) long' d' kept' (λ w. (lengths w).numbers) refl (sym request_answer ∙ z))
-      ∙ ap (λ (x : Done). x.state) met) p
+      ∙ ap (λ (x : StateOutcome). x.state) met) p

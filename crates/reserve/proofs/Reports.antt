@@ -4,21 +4,24 @@ use mathlib.Core.List.{List, [], ◌++◌, append-nil}
 use Prim.Native.Nat.{ℕ, ◌*◌, ◌≤◌, ◌<◌}
 use native.Mathlib.Omega.{arith}
 use native.Mathlib.Decide.{ℕ_discrete}
-use borrow.Author.Tests.{eq-eqb, ne_eqb}
+use borrow.Author.Tests.{ne_eqb}
 use lib.ListN.{length, take, drop, drop_of_length-le}
 use lib.Seq.{length-take-le, length_front}
+use Rattle.std.specs.Prelude.{Result}
+use Rattle.refusal.specs.declared.Refusal.{Refusal}
+use Rattle.refusal.specs.Number.{number_in}
 use Rattle.rules.specs.Call.{Call}
-use Rattle.rules.specs.Step.{Outcome as Result, step}
-use Rattle.rules.specs.Value.{call_of, number_of, Gives, value_of}
+use Rattle.rules.specs.Step.{Outcome as TableOutcome, step}
+use Rattle.rules.specs.Value.{call_of, plan_in, Gives, value_of}
 use Rattle.rules.specs.declared.Call.{Call as Arguments}
 use Rattle.plans.proofs.PlanOf.{count_in_plan_of}
 use Rattle.rules.proofs.Few as Few
 use Rattle.rules.proofs.OneKind.{at_most_7}
-use Rattle.rules.specs.declared.Called.{Called}
-use Rattle.rules.proofs.Given.{value_of_step}
+use Rattle.rules.specs.declared.Done.{Done}
+use Rattle.rules.proofs.Given.{value_given}
 use Rattle.calls.proofs.Entries.{entries_of_call, moves_within, done_table}
-use Rattle.image.specs.Image.{image_of, lent_as, table_of, move_bytes, Decoded}
-use Rattle.reserve.specs.Door.{image_after, Reported}
+use Rattle.image.specs.Image.{lent_as, table_of, Decoded}
+use Rattle.reserve.specs.Door.{image_after, Reported, entries_in}
 use Rattle.reserve.specs.declared.Outcome.{Outcome}
 use Rattle.image.proofs.Images.{lent_as_none}
 
@@ -57,21 +60,10 @@ module _ {n k : ℕ} {image numbers after : List ℕ} {done : Type 0} (t : Throu
 
 -- ---- the report
 
-module _ (o : Result) (image list : List ℕ) (r : Outcome) (a : r.answer ≡ o.answer) (n : r.node ≡ o.node) (m : r.moves ≡ length o.moves) where
-  pub report_refused : ¬ (o.answer ≡ 0) → Reported o image list r image list
-  report_refused ne =
-      let other = ne_eqb o.answer 0 ne in
-      record { answer = a; node = n; count = m; table = rw other; moves = rw other }
-
-  pub report_done : o.answer ≡ 0 → (image' list' : List ℕ) → image' ≡ image_of o.table
-      → list' ≡ move_bytes o.moves ++ drop (8 * length o.moves) list → Reported o image list r image' list'
-  report_done z image' list' p q =
-      let done = eq-eqb o.answer 0 z in
-      record { answer = a; node = n; count = m; table = rw done p; moves = rw done q }
-
 -- the table of a refused call does not matter
-pub same_report : (o o' : Result) {image list : List ℕ} {r : Outcome} {image' list' : List ℕ} → o.answer ≡ o'.answer → o.node ≡ o'.node
-    → o.moves ≡ o'.moves → (o.answer ≡ 0 → o.table ≡ o'.table) → Reported o image list r image' list' → Reported o' image list r image' list'
+pub same_report : (o o' : TableOutcome) {image list : List ℕ} {r : Outcome} {image' list' : List ℕ}
+    → o.answer ≡ o'.answer → o.node ≡ o'.node → o.moves ≡ o'.moves → (o.answer ≡ 0 → o.table ≡ o'.table)
+    → Reported o image list r image' list' → Reported o' image list r image' list'
 same_report o o' {image} {list} a n m t p = record {
   answer = p.answer ∙ a;
   node = p.node ∙ n;
@@ -84,43 +76,33 @@ same_report o o' {image} {list} a n m t p = record {
     go (yes z) = rw (t z, a)
     go (no ne) = rw (← a, ne_eqb o.answer 0 ne)
 
--- the count of a part that is lent
-pub front_count : {image numbers : List ℕ} {k : ℕ} → Decoded image numbers k → k ≡ length (take k numbers)
-front_count {image} {numbers} {k} d = sym (length-take-le k numbers d.few)
-
--- the count of an array of n numbers whose front a call has changed
-pub array_count : {n : ℕ} (numbers after : List ℕ) (k : ℕ) → length numbers ≡ n → length after ≡ length (take k numbers)
-    → n ≡ length (after ++ drop k numbers)
-array_count numbers after k long kept = sym (length_front numbers after k kept ∙ long)
-
 -- the table that an array of 4,096 entries was read into
 pub front_table : {image nodes : List ℕ} {k : ℕ} → length nodes ≡ 4096 → Decoded image nodes k → take k nodes ≡ table_of image
 front_table {image} long d = d.front ∙ ap (λ (m : ℕ). lent_as m image) long
 
 -- the moves of a call go into a plan, and into the list that it was given
-module _ (h : ℕ) (c : Arguments) (T : List ℕ) (m : ℕ) (r : Called) (T' : List ℕ) (met : Gives (step h T (call_of c m)) r T') where
-  count : r.plan.n ≡ length (step h T (call_of c m)).moves
-  count = count_in_plan_of r.plan (step h T (call_of c m)).moves met.plan
-
-  pub moves_few : r.plan.n ≤ 7
-  moves_few = omega (arith, count, Few.moves_few h T (call_of c m), at_most_7 (call_of c m))
-
-  pub moves_fit : r.plan.n ≤ m
-  moves_fit = omega (arith, count, entries_of_call c m, moves_within h T (call_of c m) (Few.moves_few h T (call_of c m)))
+pub call_room : (h : ℕ) (c : Arguments) (T list : List ℕ) {r : Result Done Refusal} {T' : List ℕ}
+    → Gives (step h T (call_of c (entries_in list))) r T' → ((plan_in r).n ≤ 7) × (8 * (plan_in r).n ≤ length list)
+call_room h c T list {r} met =
+    let call = call_of c (entries_in list) in
+    let counted = count_in_plan_of (plan_in r) (step h T call).moves met.plan in
+    let few = Few.moves_few h T call in
+    (omega (arith, counted, few, at_most_7 call), omega (arith, counted, entries_of_call c (entries_in list), moves_within h T call few))
 
 -- a call that was asked of the front of the array
-module _ (h : ℕ) (c : Call) (called : Called) {image nodes after : List ℕ} {k : ℕ} (long : length nodes ≡ 4096) (d : Decoded image nodes k)
-    (kept : length after ≡ length (take k nodes)) (given : Gives (step h (take k nodes) c) called after) where
+module _ (h : ℕ) (c : Call) {called : Result Done Refusal} {image nodes after : List ℕ} {k : ℕ}
+    (long : length nodes ≡ 4096) (d : Decoded image nodes k) (kept : length after ≡ length (take k nodes))
+    (given : Gives (step h (take k nodes) c) called after) where
   met_on_table : value_of called after ≡ step h (table_of image) c
-  met_on_table = value_of_step h (take k nodes) c given ∙ ap (λ (T : List ℕ). step h T c) (front_table long d)
+  met_on_table = value_given given ∙ ap (λ (T : List ℕ). step h T c) (front_table long d)
 
-  answer_met : number_of called.answer ≡ (step h (table_of image) c).answer
-  answer_met = ap (λ (o : Result). o.answer) met_on_table
+  answer_met : number_in called ≡ (step h (table_of image) c).answer
+  answer_met = ap (λ (o : TableOutcome). o.answer) met_on_table
 
   through : Through 4096 image nodes after k ((step h (table_of image) c).answer ≡ 0)
   through = record { long = long; some_numbers = omega arith; before = d; kept = kept; whole = done_table h (table_of image) c }
 
-  pub call_finishes : number_of called.answer ≡ 0 → length image ≡ 2 * length (after ++ drop k nodes)
+  pub call_finishes : number_in called ≡ 0 → length image ≡ 2 * length (after ++ drop k nodes)
   call_finishes z = omega (arith, array_length through, image_length_done through (sym answer_met ∙ z))
 
   -- what is reported of the array is what is reported of the outcome
@@ -128,6 +110,6 @@ module _ (h : ℕ) (c : Call) (called : Called) {image nodes after : List ℕ} {
       → Reported (value_of called (after ++ drop k nodes)) image list r image' list'
       → Reported (step h (table_of image) c) image list r image' list'
   call_reported p =
-      same_report (value_of called (after ++ drop k nodes)) (step h (table_of image) c) answer_met (ap (λ (o : Result). o.node) met_on_table)
-      (ap (λ (o : Result). o.moves) met_on_table)
-      (λ z. array_done through (sym answer_met ∙ z) ∙ ap (λ (o : Result). o.table) met_on_table) p
+      same_report (value_of called (after ++ drop k nodes)) (step h (table_of image) c) answer_met (ap (λ (o : TableOutcome). o.node) met_on_table)
+      (ap (λ (o : TableOutcome). o.moves) met_on_table)
+      (λ z. array_done through (sym answer_met ∙ z) ∙ ap (λ (o : TableOutcome). o.table) met_on_table) p

@@ -2,14 +2,14 @@
 use Rattle.std.specs.Prelude.{◌≡◌, cond, List, ◌++◌, ℕ, ◌*◌, ◌/◌, eqb, length, drop}
 use Rattle.std.proofs.Math.Option.{Option, some, none}
 use Rattle.rules.specs.Call.{Call}
-use Rattle.rules.specs.Step.{Outcome as Result, step as table_step}
+use Rattle.rules.specs.Step.{Outcome as TableOutcome, step as table_step}
 use Rattle.rules.specs.declared.Call.{Call as Arguments}
 use Rattle.admission.specs.Call.{State, direct, admit}
-use Rattle.admission.specs.Step.{Outcome as Done, on_table, step, open_reserve}
+use Rattle.admission.specs.Step.{Outcome as StateOutcome, on_table, step, open_reserve}
 use Rattle.admission.specs.Value.{lent}
 use Rattle.admission.specs.declared.Request.{Request}
 use Rattle.image.specs.Image.{image_of, table_of, line_in, move_bytes}
-use Rattle.pagemap.specs.declared.Counted.{Counted as Bits}
+use Rattle.pagemap.specs.Count.{Counted as Bits}
 use Rattle.reserve.specs.declared.Admission.{Admission}
 use Rattle.reserve.specs.declared.Outcome.{Outcome}
 use Rattle.reserve.specs.declared.page_map.Counted.{Counted}
@@ -19,15 +19,15 @@ abbrev pub bytes_after : ℕ → List ℕ → List ℕ → List ℕ
 bytes_after answer numbers bytes = cond (eqb answer 0) (image_of numbers) bytes
 
 -- the image of the table afterwards
-abbrev pub image_after : Result → List ℕ → List ℕ
+abbrev pub image_after : TableOutcome → List ℕ → List ℕ
 image_after o image = bytes_after o.answer o.table image
 
 -- the list afterwards: the moves, eight bytes each, and the bytes after them as they were; a refusal leaves every byte
-abbrev pub list_after : Result → List ℕ → List ℕ
+abbrev pub list_after : TableOutcome → List ℕ → List ℕ
 list_after o list = cond (eqb o.answer 0) (move_bytes o.moves ++ drop (8 * length o.moves) list) list
 
 -- r is the report of o, and the bytes afterwards are image' and list'
-pub record Reported (o : Result) (image list : List ℕ) (r : Outcome) (image' list' : List ℕ) : Type 0 where
+pub record Reported (o : TableOutcome) (image list : List ℕ) (r : Outcome) (image' list' : List ℕ) : Type 0 where
   pub answer : r.answer ≡ o.answer
   pub node : r.node ≡ o.node
   pub count : r.moves ≡ length o.moves
@@ -49,7 +49,7 @@ abbrev pub state_in : List ℕ → List ℕ → State
 state_in image line = lent (table_of image) (line_in line)
 
 -- r is the report of o, and the bytes afterwards are image', line' and list'
-pub record ReportedBehind (o : Done) (image line list : List ℕ) (r : Outcome) (image' line' list' : List ℕ) : Type 0 where
+pub record ReportedBehind (o : StateOutcome) (image line list : List ℕ) (r : Outcome) (image' line' list' : List ℕ) : Type 0 where
   pub of_table : Reported (on_table o) image list r image' list'
   pub line_bytes : line' ≡ bytes_after o.answer o.state.line line
 
@@ -68,7 +68,7 @@ abbrev pub without_tenant : Admission → Outcome
 without_tenant r = record { answer = r.answer; node = r.node; moves = r.moves }
 
 -- r is the report of o, with the tenant that it names
-pub record ReportedAdmission (o : Done) (image line list : List ℕ) (r : Admission) (image' line' list' : List ℕ) : Type 0 where
+pub record ReportedAdmission (o : StateOutcome) (image line list : List ℕ) (r : Admission) (image' line' list' : List ℕ) : Type 0 where
   pub behind : ReportedBehind o image line list (without_tenant r) image' line' list'
   pub tenant : r.tenant ≡ tenant_number o.named
 
@@ -78,7 +78,7 @@ AdmittedOn h image line list r image' line' list' =
     ReportedAdmission (step h (state_in image line) (admit (entries_in list))) image line list r image' line' list'
 
 -- a call that changes the line alone has answered r, and the line's bytes afterwards are line'
-pub record LineCalled (o : Done) (line : List ℕ) (r : ℕ) (line' : List ℕ) : Type 0 where
+pub record LineCalled (o : StateOutcome) (line : List ℕ) (r : ℕ) (line' : List ℕ) : Type 0 where
   pub answer : r ≡ o.answer
   pub line_bytes : line' ≡ bytes_after o.answer o.state.line line
 

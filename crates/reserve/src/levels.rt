@@ -1,11 +1,14 @@
 // The level of a grant by pages through the C door.
 ghost use Rattle.std.specs.Prelude.{◌≡◌};
+ghost use Rattle.refusal.specs.Number.{number_of};
 ghost use Rattle.reserve.specs.LevelOfPages.{no_level, level_asked};
 
 use layout::{MAX_HEIGHT, power};
+use refusal::Refusal;
 use sizes::level_for;
 
 // Which level a number of pages takes: 0 or the number of a refusal, and the level.
+// The C interface: it has a number in the place of a Result.
 #[repr(C)]
 #[derive(Clone, Copy)]
 pub struct Level {
@@ -18,21 +21,23 @@ pub fn reserve_level_of_pages(height: u16, pages: u16) -> Level
     ensures { result ≡ level_asked height pages }
 {
     if MAX_HEIGHT < height {
-        return no_level(refusal::HEIGHT);
+        return Level::from(Refusal::Height);
     }
     if power(height) <= pages {
-        return no_level(refusal::PAGES);
+        return Level::from(Refusal::Pages);
     }
     let level = level_for(height, pages);
     Level { answer: 0, level }
 }
 
-// A refusal: its number, and no level.
-fn no_level(number: u16) -> Level
-    ensures { result ≡ no_level number }
-{
-    Level {
-        answer: number,
-        level: 0,
+impl From<Refusal> for Level {
+    ghost from_gives = { λ refusal level. level ≡ no_level (number_of refusal) };
+
+    // A refusal: its number, and no level.
+    fn from(refusal: Refusal) -> Level {
+        Level {
+            answer: u16::from(refusal),
+            level: 0,
+        }
     }
 }

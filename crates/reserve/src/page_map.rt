@@ -9,6 +9,7 @@ use image::decode;
 use table::TENANTS;
 
 // What counting reports: 0 or 15, and the number of set bits.
+// The C interface: it has a number in the place of a Result.
 #[repr(C)]
 #[derive(Clone, Copy)]
 pub struct Counted {
@@ -22,16 +23,21 @@ pub fn reserve_draw(height: u16, table: &[u8], map: &mut [u8]) -> u16
 {
     let mut nodes = [0u16; TENANTS];
     let n = decode(table, &mut nodes[..]);
-    pagemap::draw(height, &nodes[..n], map)
+    match pagemap::draw(height, &nodes[..n], map) {
+        Ok(()) => 0,
+        Err(refusal) => u16::from(refusal),
+    }
 }
 
 // The number of set bits in the first 512 bytes of a map.
 pub fn reserve_count(map: &[u8]) -> Counted
     ensures { result ≡ count_of (counted map.now) }
 {
-    let found = pagemap::count(map);
-    Counted {
-        answer: found.answer,
-        count: found.count,
+    match pagemap::count(map) {
+        Ok(count) => Counted { answer: 0, count },
+        Err(refusal) => Counted {
+            answer: u16::from(refusal),
+            count: 0,
+        },
     }
 }

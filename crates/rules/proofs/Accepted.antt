@@ -41,7 +41,8 @@ use Rattle.rules.proofs.Checks.{length_passed}
 use Rattle.rules.proofs.OneKind.{grants_do_not_release, grants_do_not_grow, releases_do_not_grow, one_level_asked, one_level_grown, at_most_7}
 use Rattle.rules.proofs.OneKind.{entered_grant}
 use Rattle.rules.proofs.Room.{count_one_more}
-use Rattle.rules.proofs.Given.{above_zero, step_refuses}
+use Rattle.std.proofs.Math.Nat.{pos_of_ne-zero}
+use Rattle.rules.proofs.Given.{step_refuses}
 use Rattle.rules.proofs.Repeats.{gave_none, gave_by_nodes}
 use Rattle.rules.proofs.Kept.{Kept}
 use Rattle.rules.proofs.Struck.{node_after_set, node_beside_set}
@@ -60,7 +61,7 @@ kept_of_order h T q e o = record { height = q; entries = e; in_order = o; agrees
   where
     go : (t : ℕ) (b : Bool) → eqb (node_at T t) 0 ≡ b → Agrees h (cond b none (some (level h (node_at T t)))) (node_at T t)
     go t true p = eqb-true (node_at T t) 0 p
-    go t false p = (record { above_zero = above_zero (node_at T t) (eqb-false (node_at T t) 0 p); in_height = o.in_tree t }, refl)
+    go t false p = (record { above_zero = pos_of_ne-zero (eqb-false (node_at T t) 0 p); in_height = o.in_tree t }, refl)
 
 -- an accepted call has passed 1, 2 and 7
 pub sound_if_accepted : (h : ℕ) (T : List ℕ) (c : Call) → (step h T c).answer ≡ 0 → Sound h T

@@ -21,6 +21,7 @@ use Rattle.rules.specs.Step.{Outcome, refused, first, counts_but, repeats, grant
 use Rattle.rules.specs.History.{Book, write, enter, at_level, held}
 use Rattle.rules.specs.Demand.{Valid, Asks, by_level, by_pages, Releases, releases, Grows, grows, Unchanged}
 use Rattle.rules.specs.Demand.{with_one, NoLegalSet, NoPlacement, NoExchange}
+use Rattle.std.proofs.Math.Nat.{ne_of_gt}
 use Rattle.rules.proofs.Checks.{answer_valid, valid_tenant, valid_size, asked_in_height, grown_in_height}
 use Rattle.rules.proofs.Room.{pages_one_more, count_one_more}
 use Rattle.rules.proofs.Kept.{Kept, sound, held_is_count, level_in_counts, no_room_no_set, room_some_set}
@@ -34,9 +35,6 @@ use Rattle.rules.proofs.Repeats.{repeats_if_holder, never_repeats}
 pub asked_holdings : (h : ℕ) (T : List ℕ) (c : Call) (l : ℕ) → Asks h c l → holdings h T c ≡ grant_holdings h T (tenant_of c) l
 asked_holdings h T c l by_level = refl
 asked_holdings h T c l by_pages = refl
-
-not_zero : {n : ℕ} → 0 < n → ¬ (n ≡ 0)
-not_zero p q = omega arith
 
 eqb_turned : (n m : ℕ) → eqb n m ≡ eqb m n
 eqb_turned n m = go (ℕ_discrete n m)
@@ -80,7 +78,7 @@ module _ (h : ℕ) (T : List ℕ) (B : Book) (K : Kept h T B) where
           ∙ rw (repeats_by_book t l l e, eq-eqb l l refl)
 
       go : Case h T c → Unchanged t T (step h T c)
-      go (by_grant k g) = absurd (not_zero (has_node t l e) g.nothing)
+      go (by_grant k g) = absurd (ne_of_gt (has_node t l e) g.nothing)
       go (by_repetition k r) = repeated_unchanged r
       go (by_release r) = absurd (grants_do_not_release h c l a r.asks)
       go (by_growth k g) = absurd (grants_do_not_grow h c l k a g.asks)
@@ -134,7 +132,7 @@ module _ (h : ℕ) (T : List ℕ) (B : Book) (K : Kept h T B) where
 
   pub holder_releases : (c : Call) (k : ℕ) → Releases c → Valid h c → B (tenant_of c) ≡ some k → (step h T c).answer ≡ 0
   holder_releases c k (releases {t = t} {m = m}) v e =
-      answer_valid h T (sound h T B K) c v ∙ rw (ne_eqb (node_at T t) 0 (not_zero (has_node t k e)))
+      answer_valid h T (sound h T B K) c v ∙ rw (ne_eqb (node_at T t) 0 (ne_of_gt (has_node t k e)))
 
   pub other_releases : (c : Call) → Releases c → Valid h c → B (tenant_of c) ≡ none → (step h T c).answer ≡ 9
   other_releases c (releases {t = t} {m = m}) v e = answer_valid h T (sound h T B K) c v ∙ rw (has_nothing t e)
@@ -143,7 +141,8 @@ module _ (h : ℕ) (T : List ℕ) (B : Book) (K : Kept h T B) where
   other_grows c l (grows {t = t} {l = k} {m = m}) v e = answer_valid h T (sound h T B K) c v ∙ rw (has_nothing t e)
 
   -- the sizes with the tenant's level exchanged are the counts with one fewer and one more
-  exchanged_sizes : (t l k : ℕ) → t < 4096 → l ≤ h → B t ≡ some k → (m : ℕ) → held (write t (some l) B) m ≡ get_or (one_block_more (counts_but h T t) l) m 0
+  exchanged_sizes : (t l k : ℕ) → t < 4096 → l ≤ h → B t ≡ some k → (m : ℕ)
+      → held (write t (some l) B) m ≡ get_or (one_block_more (counts_but h T t) l) m 0
   exchanged_sizes t l k q l≤h e m =
       let x = level h (node_at T t) in
       let holds = has_node t k e in
@@ -165,8 +164,9 @@ module _ (h : ℕ) (T : List ℕ) (B : Book) (K : Kept h T B) where
   pub holder_grows : (c : Call) (l k : ℕ) → Grows c l → Valid h c → B (tenant_of c) ≡ some k
       → (((step h T c).answer ≡ 10) ↔ NoExchange h B (tenant_of c) l) × (((step h T c).answer ≡ 10) ⊎ ((step h T c).answer ≡ 0))
   holder_grows c l k (grows {t = t} {l = j} {m = m}) v e =
-      by_pages_after (step h T c).answer (one_block_more (counts_but h T t) j) (held (write t (some j) B)) (exchanged_sizes t j k (valid_tenant h c v) low e)
-      (answer_valid h T (sound h T B K) c v ∙ rw (ne_eqb (node_at T t) 0 (not_zero (has_node t k e)), pages_one_more (counts_but h T t) j in_fewer))
+      by_pages_after (step h T c).answer (one_block_more (counts_but h T t) j) (held (write t (some j) B))
+      (exchanged_sizes t j k (valid_tenant h c v) low e)
+      (answer_valid h T (sound h T B K) c v ∙ rw (ne_eqb (node_at T t) 0 (ne_of_gt (has_node t k e)), pages_one_more (counts_but h T t) j in_fewer))
     where
       low : j ≤ h
       low = grown_in_height h c j grows (valid_size h c v)

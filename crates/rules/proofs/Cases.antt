@@ -18,7 +18,7 @@ use Rattle.rules.specs.Demand.{Asks, by_level, by_pages, releases, grows, Unchan
 pub use Rattle.rules.proofs.Ways.{Granted, Repeated, Released, Grown, Case, by_grant, by_repetition, by_release, by_growth, by_refusal}
 use Rattle.rules.proofs.Checks.{Sound, first_of_sound, Numbered, validity_numbered, not_applied, rest_zero, valid_tenant, valid_size}
 use Rattle.rules.proofs.Checks.{asked_in_height, grown_in_height}
-use Rattle.rules.proofs.Given.{above_zero}
+use Rattle.std.proofs.Math.Nat.{pos_of_ne-zero}
 use Rattle.rules.proofs.Repeats.{repeats_holds}
 
 pub repeated_unchanged : {h : ℕ} {T : List ℕ} {c : Call} {l : ℕ} → Repeated h T c l → Unchanged (tenant_of c) T (step h T c)
@@ -39,7 +39,7 @@ module _ (h : ℕ) (T : List ℕ) (s : Sound h T) where
   holds_nothing t cs e = omega (arith, ltb-false 0 (node_at T t) (not_applied 8 (ltb 0 (node_at T t)) cs (omega arith) e))
 
   holds_one : (t : ℕ) (cs : List Check) → first (check 9 (eqb (node_at T t) 0) ∷ cs) ≡ 0 → 0 < node_at T t
-  holds_one t cs e = above_zero (node_at T t) (eqb-false (node_at T t) 0 (not_applied 9 (eqb (node_at T t) 0) cs (omega arith) e))
+  holds_one t cs e = pos_of_ne-zero (eqb-false (node_at T t) 0 (not_applied 9 (eqb (node_at T t) 0) cs (omega arith) e))
 
   pages_fit : (c : Check) (held l : ℕ) → 0 < c.number → first (c ∷ check 10 (ltb (2 ^ h) (held + 2 ^ l)) ∷ []) ≡ 0 → held + 2 ^ l ≤ 2 ^ h
   pages_fit c held l numbered e =

@@ -20,7 +20,8 @@ use Rattle.rules.proofs.Exchanged.{held_exchanged}
 use Rattle.rules.proofs.Kept.{Kept}
 use Rattle.rules.proofs.Box.{box, kept_by_call}
 
-pub kept_by_calls : (h : ℕ) (T : List ℕ) (B : Book) (cs : List Call) → Kept h T B → Kept h (table_from h T cs) (book_from h B cs (answers_from h T cs))
+pub kept_by_calls : (h : ℕ) (T : List ℕ) (B : Book) (cs : List Call) → Kept h T B
+    → Kept h (table_from h T cs) (book_from h B cs (answers_from h T cs))
 unfolding table_from answers_from book_from
 kept_by_calls h T B [] K = K
 kept_by_calls h T B (c ∷ cs) K = kept_by_calls h (step h T c).table (enter h c (step h T c).answer B) cs (kept_by_call h T B K c)

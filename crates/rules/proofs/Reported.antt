@@ -90,7 +90,8 @@ struck_was_occupied T t n p = go (tenant_of (set T t 0) n p)
 
 -- as many leave the nodes that the table had as leave its layout, or fewer
 moves_few : (h : ℕ) (T S ds : List ℕ) (most : ℕ) → h ≤ 12 → InOrder h T → ((n : ℕ) → occupied S n ≡ true → occupied T n ≡ true)
-    → Movable h (layout_set h ds) S → leaving h (layout_set h (counts_of h T)) (layout_set h ds) ≤ most → length (moves_of h (layout_set h ds) S) ≤ most
+    → Movable h (layout_set h ds) S → leaving h (layout_set h (counts_of h T)) (layout_set h ds) ≤ most
+    → length (moves_of h (layout_set h ds) S) ≤ most
 unfolding leaving
 moves_few h T S ds most h≤12 o from M few =
     let N = layout_set h ds in
@@ -104,12 +105,14 @@ moves_few h T S ds most h≤12 o from M few =
         (fails_second (occupied S n) (layout_set h ds n) p)
 
 pub grant_moves_few : (h : ℕ) (T : List ℕ) (l : ℕ) → h ≤ 12 → InOrder h T → l < length (counts_of h T)
-    → Movable h (layout_set h (one_block_more (counts_of h T) l)) T → length (moves_of h (layout_set h (one_block_more (counts_of h T) l)) T) ≤ most_by_grant
+    → Movable h (layout_set h (one_block_more (counts_of h T) l)) T
+    → length (moves_of h (layout_set h (one_block_more (counts_of h T) l)) T) ≤ most_by_grant
 grant_moves_few h T l h≤12 o q M =
     moves_few h T T (one_block_more (counts_of h T) l) most_by_grant h≤12 o (λ n p. p) M (grant_leaves_at_most_3 h (counts_of h T) l q)
 
 -- tenant t has left level x, and the counts cs are those of the others
-module _ (h : ℕ) (T : List ℕ) (t x : ℕ) (cs : List ℕ) (h≤12 : h ≤ 12) (o : InOrder h T) (q : x < length cs) (e : one_block_more cs x ≡ counts_of h T) where
+module _ (h : ℕ) (T : List ℕ) (t x : ℕ) (cs : List ℕ) (h≤12 : h ≤ 12) (o : InOrder h T)
+    (q : x < length cs) (e : one_block_more cs x ≡ counts_of h T) where
   pub release_moves_few : Movable h (layout_set h cs) (set T t 0) → length (moves_of h (layout_set h cs) (set T t 0)) ≤ most_by_release
   release_moves_few M =
       moves_few h T (set T t 0) cs most_by_release h≤12 o (struck_was_occupied T t) M (rw (← e) (release_leaves_at_most_4 h cs x q))
@@ -117,4 +120,5 @@ module _ (h : ℕ) (T : List ℕ) (t x : ℕ) (cs : List ℕ) (h≤12 : h ≤ 12
   pub growth_moves_few : (l : ℕ) → l < length cs → Movable h (layout_set h (one_block_more cs l)) (set T t 0)
       → length (moves_of h (layout_set h (one_block_more cs l)) (set T t 0)) ≤ most_by_growth
   growth_moves_few l r M =
-      moves_few h T (set T t 0) (one_block_more cs l) most_by_growth h≤12 o (struck_was_occupied T t) M (rw (← e) (growth_leaves_at_most_7 h cs x l q r))
+      moves_few h T (set T t 0) (one_block_more cs l) most_by_growth h≤12 o (struck_was_occupied T t) M
+      (rw (← e) (growth_leaves_at_most_7 h cs x l q r))

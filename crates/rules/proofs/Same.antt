@@ -1,9 +1,8 @@
 -- A growth to the level that the tenant has changes nothing.
 use mathlib.Core.Path.{◌≡◌, refl, sym, ap, ◌∙◌}
 use mathlib.Core.Bool.{not, ◌&&◌, and-true}
-use mathlib.Core.List.{List, [], ◌∷◌, map}
+use mathlib.Core.List.{List}
 use Prim.Native.Nat.{ℕ, suc, ◌^◌, ◌<◌}
-use native.Mathlib.Omega.{arith}
 use native.Mathlib.Decide.{ℕ_discrete}
 use borrow.Author.Tests.{ne_eqb}
 use lib.ListN.{length, set, length-map}
@@ -27,24 +26,17 @@ use Rattle.rules.specs.Step.{counts_but, granted}
 use Rattle.rules.specs.History.{Book}
 use Rattle.rules.specs.Demand.{Unchanged}
 use Rattle.rules.proofs.Kept.{Kept}
+use Rattle.std.proofs.lemmas.List.{nil_from_length, map-id}
 use Rattle.rules.proofs.Placing.{Coming, coming_movable, coming_one_more}
 use Rattle.rules.proofs.Releasing.{counts_before}
 use Rattle.rules.proofs.Reported.{struck_was_occupied}
-
-empty : {A : Type 0} (xs : List A) → length xs ≡ 0 → xs ≡ []
-empty [] e = refl
-empty (x ∷ xs) e = absurd (omega arith)
-
-map_same : (xs : List ℕ) → map (λ (x : ℕ). x) xs ≡ xs
-map_same [] = refl
-map_same (x ∷ xs) = ap (λ (ys : List ℕ). x ∷ ys) (map_same xs)
 
 -- where nobody has to move, the table stays
 unmoved : (h : ℕ) (N : Nodes) (S : List ℕ) → length (moves_of h N S) ≡ 0 → moved h N S ≡ S
 unfolding moves_of moved
 unmoved h N S none =
-    let still = empty (shifts h (occupied S) N) (sym (length-map (shifts h (occupied S) N) _) ∙ none) in
-    rw still (map_same S)
+    let still = nil_from_length (shifts h (occupied S) N) (sym (length-map (shifts h (occupied S) N) _) ∙ none) in
+    rw still (map-id S)
 
 module _ (h : ℕ) (T : List ℕ) (B : Book) (K : Kept h T B) (t : ℕ) (t<4096 : t < 4096) (holds : 0 < node_at T t) (l : ℕ)
     (same : level h (node_at T t) ≡ l) (C : Coming h T t l (set T t 0) (counts_but h T t)) where
@@ -88,7 +80,7 @@ module _ (h : ℕ) (T : List ℕ) (B : Book) (K : Kept h T B) (t : ℕ) (t<4096 
   same_level_unchanged = record {
     answer = refl;
     node = its_own;
-    moves = empty (moves_in_order h (moves_of h new_set struck)) (in_order_length h (moves_of h new_set struck) ∙ nobody_moves);
+    moves = nil_from_length (moves_in_order h (moves_of h new_set struck)) (in_order_length h (moves_of h new_set struck) ∙ nobody_moves);
     table = ap (λ (S : List ℕ). set S t (newcomer h (occupied struck) new_set l)) (unmoved h new_set struck nobody_moves)
         ∙ set-set T t 0 (newcomer h (occupied struck) new_set l)
         ∙ ap (set T t) its_own

@@ -33,11 +33,8 @@ node_beside_set T t e u ne = ap node_of (get_or-set_other T t u e 0 ne)
 -- one more after one fewer, where there was one
 pub one_more_one_fewer : (cs : List ℕ) (x : ℕ) → x < length cs → 0 < get_or cs x 0 → one_block_more (one_block_fewer cs x) x ≡ cs
 one_more_one_fewer cs x q p =
-    rw (get_or-set_same cs x (get_or cs x 0 - 1) 0 q, set-set)
-    (ap (set cs x) (back (get_or cs x 0) p) ∙ set-get_or cs x 0)
-  where
-    back : (n : ℕ) → 0 < n → n - 1 + 1 ≡ n
-    back n r = omega arith
+    let back : get_or cs x 0 - 1 + 1 ≡ get_or cs x 0 = omega arith in
+    rw (get_or-set_same cs x (get_or cs x 0 - 1) 0 q, set-set) (ap (set cs x) back ∙ set-get_or cs x 0)
 
 module _ (h : ℕ) (T : List ℕ) (t : ℕ) (order : InOrder h T) (t<n : t < length T) (holds : 0 < node_at T t) where
   pub struck_in_tree : (u : ℕ) → node_at (set T t 0) u < 2 ^ suc h

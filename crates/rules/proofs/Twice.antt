@@ -54,7 +54,9 @@ module _ (h : ℕ) (T : List ℕ) (c : Call) (cs : List Call) (more : SafeToRepe
 pub safe_to_repeat : (h : ℕ) (T : List ℕ) (cs : List Call) → SafeToRepeat h T cs
 unfolding table_from answers_from grants_twice
 safe_to_repeat h T [] = record { table = refl; numbers = refl }
-safe_to_repeat h T (grant_level t l m ∷ cs) = grant_more h T (grant_level t l m) cs (safe_to_repeat h (step h T (grant_level t l m)).table cs) l by_level refl
-safe_to_repeat h T (grant_pages t p m ∷ cs) = grant_more h T (grant_pages t p m) cs (safe_to_repeat h (step h T (grant_pages t p m)).table cs) (level_for h p) by_pages refl
+safe_to_repeat h T (grant_level t l m ∷ cs) =
+    grant_more h T (grant_level t l m) cs (safe_to_repeat h (step h T (grant_level t l m)).table cs) l by_level refl
+safe_to_repeat h T (grant_pages t p m ∷ cs) =
+    grant_more h T (grant_pages t p m) cs (safe_to_repeat h (step h T (grant_pages t p m)).table cs) (level_for h p) by_pages refl
 safe_to_repeat h T (release t m ∷ cs) = other_more h T (release t m) cs (safe_to_repeat h (step h T (release t m)).table cs) refl
 safe_to_repeat h T (grow t l m ∷ cs) = other_more h T (grow t l m) cs (safe_to_repeat h (step h T (grow t l m)).table cs) refl

@@ -2,40 +2,17 @@
 // proofs/ has the theorems about it.
 #![tactic(auto)]
 
-ghost use Rattle.std.specs.Prelude.{◌≡◌, List, ℕ, ◌<◌};
-ghost use Rattle.rules.specs.Step.{refused as Step·refused};
+ghost use Rattle.std.specs.Prelude.{◌≡◌};
 ghost use Rattle.rules.specs.Call.{tenant_of, least_entries};
-ghost use Rattle.rules.specs.Value.{call_of, number_of, node_in, Gives};
+ghost use Rattle.rules.specs.Value.{call_of};
 
 use plans::Plan;
 
-// What a call reports: done, with the node that its tenant has now or gave up (0 for an opening), or the number of its refusal.
+// What an accepted call reports: the node that its tenant has now or gave up, and the moves that it made.
 #[derive(Clone, Copy)]
-pub enum Answer {
-    Done { node: u16 },
-    Refused { number: u16 },
-}
-
-impl Answer {
-    // 0 for done, else the refusal's number.
-    pub fn number(self) -> u16
-        ensures { result ≡ number_of self }
-    {
-        match self {
-            Answer::Done { node: _ } => 0,
-            Answer::Refused { number } => number,
-        }
-    }
-
-    // The node that the answer names; 0 for a refusal.
-    pub fn node(self) -> u16
-        ensures { result ≡ node_in self }
-    {
-        match self {
-            Answer::Done { node } => node,
-            Answer::Refused { number: _ } => 0,
-        }
-    }
+pub struct Done {
+    pub node: u16,
+    pub plan: Plan,
 }
 
 // A grant by level or by pages, a release, or a growth up or down.
@@ -53,10 +30,10 @@ impl Call {
         ensures { result ≡ tenant_of (call_of self 0) }
     {
         match self {
-            Call::GrantLevel { tenant, level: _ } => tenant,
-            Call::GrantPages { tenant, pages: _ } => tenant,
-            Call::Release { tenant } => tenant,
-            Call::Grow { tenant, level: _ } => tenant,
+            Call::GrantLevel { tenant, .. }
+            | Call::GrantPages { tenant, .. }
+            | Call::Release { tenant }
+            | Call::Grow { tenant, .. } => tenant,
         }
     }
 
@@ -65,37 +42,8 @@ impl Call {
         ensures { result ≡ least_entries (call_of self 0) }
     {
         match self {
-            Call::GrantLevel {
-                tenant: _,
-                level: _,
-            } => 4,
-            Call::GrantPages {
-                tenant: _,
-                pages: _,
-            } => 4,
-            Call::Release { tenant: _ } => 4,
-            Call::Grow {
-                tenant: _,
-                level: _,
-            } => 7,
+            Call::GrantLevel { .. } | Call::GrantPages { .. } | Call::Release { .. } => 4,
+            Call::Grow { .. } => 7,
         }
-    }
-}
-
-// What a call reports: its answer, and the moves that it made.
-#[derive(Clone, Copy)]
-pub struct Called {
-    pub answer: Answer,
-    pub plan: Plan,
-}
-
-// A refusal has no moves.
-pub fn refused(number: u16) -> Called
-    requires { 0 < number }
-    ensures { (T : List ℕ) → Gives (Step·refused number T) result T }
-{
-    Called {
-        answer: Answer::Refused { number },
-        plan: Plan::none(),
     }
 }

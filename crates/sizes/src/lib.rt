@@ -11,23 +11,22 @@ const LEVEL_OF_NO_SIZE: u16 = 4;
 const GUARD_PAGES: u32 = 1;
 
 // The level that a number of pages takes: the smallest whose block has them and the guard page. 0 names no size.
+#[tactic(auto, using(crate::proofs::Level::level_for_named))]
 pub fn level_for(height: u16, pages: u16) -> u16
     ensures { result ≡ level_for height pages }
 {
     if pages == 0 {
         return level_of_no_size(height);
     }
-    least_level((pages as u32) + GUARD_PAGES)
+    least_level(u32::from(pages) + GUARD_PAGES)
 }
 
 // The level of an image that names no size: the whole of a reserve that is lower.
+#[tactic(auto, unfolding(crate::specs::Level::level_for))]
 fn level_of_no_size(height: u16) -> u16
     ensures { result ≡ level_for height 0 }
 {
-    if height < LEVEL_OF_NO_SIZE {
-        return height;
-    }
-    LEVEL_OF_NO_SIZE
+    height.min(LEVEL_OF_NO_SIZE)
 }
 
 // The smallest level whose block has so many pages.
@@ -37,5 +36,5 @@ fn least_level(pages: u32) -> u16
     if pages <= 1 {
         return 0;
     }
-    32 - (u32::leading_zeros(pages - 1) as u16)
+    (pages - 1).ilog2() as u16 + 1
 }

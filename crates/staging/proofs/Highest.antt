@@ -4,7 +4,8 @@ use mathlib.Core.Bool.{Bool, true, false, cond}
 use Prim.Native.Nat.{ℕ, zero, suc, ◌-◌, ◌<◌}
 use native.Mathlib.Omega.{arith}
 use native.Mathlib.Decide.{ℕ_discrete}
-use Rattle.staging.specs.Choice.{highest}
+use Rattle.std.specs.Prelude.{Some, None}
+use Rattle.staging.specs.Choice.{highest, below_it}
 
 -- none passes
 pub highest_none : (n : ℕ) (p : ℕ → Bool) → ((k : ℕ) → k < n → p k ≡ false) → highest n p ≡ 0
@@ -58,5 +59,15 @@ pub highest_found : (n : ℕ) (p : ℕ → Bool) → 0 < n → p (n - 1) ≡ tru
 highest_found zero p q e = absurd (omega arith)
 highest_found (suc n) p q e = let less : suc n - 1 ≡ n = omega arith in rw (sym (ap p less) ∙ e)
 
-pub none_left : (n : ℕ) (p : ℕ → Bool) → n ≡ 0 → {k : ℕ} → highest n p ≡ k → 0 ≡ k
-none_left n p e f = sym (ap (λ (m : ℕ). highest m p) e) ∙ f
+-- the number below it
+pub some_below : (x k : ℕ) → below_it x ≡ Some k → x ≡ suc k
+some_below zero k e = cc
+some_below (suc j) k e = cc
+
+pub none_below : (x : ℕ) → below_it x ≡ None → x ≡ 0
+none_below zero e = refl
+none_below (suc j) e = cc
+
+pub found_below : (x k : ℕ) → 0 < k → k ≡ x → Some (k - 1) ≡ below_it x
+found_below zero k q e = absurd (omega arith)
+found_below (suc j) k q e = ap Some (omega arith)

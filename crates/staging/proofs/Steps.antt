@@ -3,7 +3,6 @@ use mathlib.Core.Path.{◌≡◌, refl, sym, ap, ◌∙◌}
 use mathlib.Core.Bool.{Bool, true, false, not, ◌&&◌, cond}
 use mathlib.Core.List.{◌∷◌}
 use Prim.Native.Nat.{ℕ, zero, suc, ◌+◌, ◌-◌, ◌*◌, ◌^◌, ◌≤◌, ◌<◌}
-use native.Mathlib.Numerals.{add-one}
 use native.Mathlib.Omega.{arith}
 use borrow.Author.Tests.{lt-ltb, le-ltb}
 use lib.Bits.{bit_and}
@@ -12,18 +11,16 @@ use lib.ListN.{get_or}
 use lib.Pow.{pow_pos}
 use Rattle.staging.specs.Graph.{Group, Graph, joined, away, sum_over}
 use Rattle.staging.specs.Choice.{highest, can_go?, next_of, if_any, order_from, order_of, works?, has, cost_of}
-use Rattle.staging.specs.Choice.{free_of, apart?, cheaper_of, better_of, best_below, everyone, graph_of, Few}
-use Rattle.staging.specs.declared.Movers.{Movers}
+use Rattle.staging.specs.Choice.{free_of, apart?, cheaper_of, better_of, everyone, graph_of}
+use Rattle.staging.specs.Mover.{nobody}
+use Rattle.staging.specs.declared.movers.Movers.{Movers}
 use Rattle.staging.proofs.Bits.{within_is, apart_is, has_zero, everyone_has}
 
 -- ---- who can go
 
-pub gone_cannot_go : (m : Movers) (A : Group) (k : ℕ) → A k ≡ true → false ≡ can_go? (graph_of m) A k
-gone_cannot_go m A k e = rw e
-
-pub can_go_by_groups : (m : Movers) (a k : ℕ) → Few m → k < m.n → has a k ≡ false
-    → eqb (bit_and (get_or m.waits k 0) a) (get_or m.waits k 0) ≡ can_go? (graph_of m) (has a) k
-can_go_by_groups m a k f q e = rw e (within_is m.n (get_or m.waits k 0) a (f.among_them k q))
+pub can_go_by_groups : (m : Movers) (a k : ℕ) → k < m.n → has a k ≡ false
+    → eqb (bit_and (get_or m.list k nobody).waits a) (get_or m.list k nobody).waits ≡ can_go? (graph_of m) (has a) k
+can_go_by_groups m a k q e = rw e (within_is m.n (get_or m.list k nobody).waits a (m.among_them k q))
 
 -- ---- all gone that can
 
@@ -35,19 +32,13 @@ pub nobody_left : (m : Movers) (i a : ℕ) → next_of (graph_of m) (has a) ≡ 
 nobody_left m zero a e = refl
 nobody_left m (suc i) a e = ap (λ (k : ℕ). away (has a) (if_any k (λ j. j ∷ order_from i (graph_of m) (joined (has a) j)))) (sym e)
 
-pub none_may_go : (m : Movers) (i a : ℕ) → i ≡ 0 → has a ≡ left_of m i a
-none_may_go m i a e = ap (λ (j : ℕ). left_of m j a) (sym e)
-
-pub one_goes : (m : Movers) (i a b k : ℕ) → 0 < i → k ≡ next_of (graph_of m) (has a) → 0 < k → has b ≡ joined (has a) (k - 1)
-    → left_of m (i - 1) b ≡ left_of m i a
-one_goes m zero a b k q e r f = absurd (omega arith)
-one_goes m (suc i) a b zero q e r f = absurd (omega arith)
-one_goes m (suc i) a b (suc k) q e r f =
-    let less : suc i - 1 ≡ i = omega arith in
-    let index : suc k - 1 ≡ k = omega arith in
-    ap (λ (x : ℕ). left_of m x b) less
-    ∙ ap (λ (A : Group). away A (order_from i (graph_of m) A)) (f ∙ ap (joined (has a)) index)
-    ∙ ap (λ (x : ℕ). away (has a) (if_any x (λ j. j ∷ order_from i (graph_of m) (joined (has a) j)))) e
+-- after i turns
+pub one_goes : (m : Movers) (i a b k : ℕ) → i < m.n → next_of (graph_of m) (has a) ≡ suc k → has b ≡ joined (has a) k
+    → left_of m (m.n - (i + 1)) b ≡ left_of m (m.n - i) a
+one_goes m i a b k q e f =
+    let left : m.n - i ≡ suc (m.n - (i + 1)) = omega arith in
+    rw (left, e)
+    (ap (λ (A : Group). away A (order_from (m.n - (i + 1)) (graph_of m) A)) f)
 
 -- the next to go is one of the movers
 highest_le : (n : ℕ) (p : ℕ → Bool) → highest n p ≤ n
@@ -70,10 +61,10 @@ highest_cong (suc n) p q same =
     ap (λ (b : Bool). cond b (suc n) (highest n p)) (same n (omega arith))
     ∙ ap (λ (r : ℕ). cond (q n) (suc n) r) (highest_cong n p q (λ k s. same k (omega arith)))
 
-pub works_by_groups : (m : Movers) (s all r : ℕ) → Few m → all ≡ everyone m.n → has r ≡ away (has s) (order_of (graph_of m) (has s))
+pub works_by_groups : (m : Movers) (s all r : ℕ) → all ≡ everyone m.n → has r ≡ away (has s) (order_of (graph_of m) (has s))
     → eqb (bit_and all r) all ≡ works? (graph_of m) (has s)
 unfolding works?
-works_by_groups m s all r f e gone =
+works_by_groups m s all r e gone =
     rw e
     (within_is m.n (everyone m.n) r (omega (arith, pow_pos m.n))
     ∙ ap (λ (x : ℕ). eqb x 0)
@@ -86,15 +77,10 @@ works_by_groups m s all r f e gone =
 abbrev pub most : ℕ
 most = 524281
 
-pub one_more : (k : ℕ) (S : Group) (f : ℕ → ℕ) (sum r : ℕ) (b : Bool) → sum ≡ sum_over k S f → b ≡ S k → r ≡ cond b (f k) 0
-    → sum + r ≡ sum_over (k + 1) S f
-one_more k S f sum r b e g h =
-    let added : r ≡ cond (S k) (f k) 0 = h ∙ ap (λ (x : Bool). cond x (f k) 0) g in
-    rw (add-one k) (omega (arith, e, added))
-
-pub cost_of_all : (m : Movers) (S : Group) (k sum : ℕ) → k ≡ m.n → sum ≡ sum_over k S (λ j. get_or m.pages j 0 * 8 + 1) → sum ≡ cost_of (graph_of m) S
+pub cost_of_all : (m : Movers) (S : Group) (k sum : ℕ) → k ≡ m.n → sum ≡ sum_over k S (λ j. (get_or m.list j nobody).pages * 8 + 1)
+    → sum ≡ cost_of (graph_of m) S
 unfolding cost_of
-cost_of_all m S k sum e f = f ∙ ap (λ (i : ℕ). sum_over i S (λ j. get_or m.pages j 0 * 8 + 1)) e
+cost_of_all m S k sum e f = f ∙ ap (λ (i : ℕ). sum_over i S (λ j. (get_or m.list j nobody).pages * 8 + 1)) e
 
 -- ---- the search
 
@@ -126,12 +112,3 @@ unfolding free_of
 free_by_groups m r e =
     let nobody : has 0 ≡ (λ k. false) = λ i k. has_zero k i in
     e ∙ ap (λ (A : Group). away A (order_of (graph_of m) A)) nobody
-
-pub best_goes_on : (g : Graph) (s b r : ℕ) → 0 < s → r ≡ better_of g (s - 1) b → best_below g (s - 1) r ≡ best_below g s b
-best_goes_on g zero b r q e = absurd (omega arith)
-best_goes_on g (suc s) b r q e =
-    let less : suc s - 1 ≡ s = omega arith in
-    ap (λ (x : ℕ). best_below g x r) less ∙ ap (best_below g s) (e ∙ ap (λ (x : ℕ). better_of g x b) less)
-
-pub best_ends : (g : Graph) (s b : ℕ) → s ≤ 0 → best_below g s b ≡ b
-best_ends g s b q = let end : s ≡ 0 = omega arith in ap (λ (x : ℕ). best_below g x b) end

@@ -1,8 +1,10 @@
 -- The plan that is chosen, as it is computed: groups by number, tried from the highest number down. `proofs/Best.antt` shows that it is the
 -- best of all plans.
-use Rattle.std.specs.Prelude.{◌≡◌, Bool, false, not, ◌&&◌, cond, List, [], ◌∷◌, ℕ, zero, suc, ◌+◌, ◌-◌, ◌*◌, ◌/◌, ◌%◌, ◌^◌, ◌≤◌, ◌<◌, eqb, ltb, get_or}
+use Rattle.std.specs.Prelude.{◌≡◌, Bool, false, not, ◌&&◌, cond, Option, Some, None, List, [], ◌∷◌, get_or}
+use Rattle.std.specs.Prelude.{ℕ, zero, suc, ◌+◌, ◌-◌, ◌*◌, ◌/◌, ◌%◌, ◌^◌, eqb, ltb}
 use Rattle.staging.specs.Graph.{Group, Graph, joined, away, sum_over}
-use Rattle.staging.specs.declared.Movers.{Movers}
+use Rattle.staging.specs.Mover.{nobody}
+use Rattle.staging.specs.declared.movers.Movers.{Movers}
 use Rattle.staging.specs.declared.Priced.{Priced}
 
 -- one more than the highest number below n that passes the test; 0 if none does
@@ -17,6 +19,11 @@ can_go? g A k = not (A k) && eqb (highest g.n (λ j. g.waits k j && not (A j))) 
 -- one more than the next to go, which is the one with the lowest tenant number that can; 0 if nobody can
 unfoldable pub next_of : Graph → Group → ℕ
 next_of g A = highest g.n (can_go? g A)
+
+-- the number below it; none for 0
+abbrev pub below_it : ℕ → Option ℕ
+below_it zero = None
+below_it (suc k) = Some k
 
 -- nothing for 0, and for one more than k what comes of k
 abbrev pub if_any : ℕ → (ℕ → List ℕ) → List ℕ
@@ -75,12 +82,7 @@ chosen_of g = best_below g (everyone g.n) (everyone g.n)
 
 -- the movers as the program has them
 abbrev pub graph_of : Movers → Graph
-graph_of m = record { n = m.n; waits = λ k j. has (get_or m.waits k 0) j; pages = λ k. get_or m.pages k 0 }
-
--- at most seven, who wait for one another only
-pub record Few (m : Movers) : Type 0 where
-  pub few : m.n ≤ 7
-  pub among_them : (k : ℕ) → k < m.n → get_or m.waits k 0 < 2 ^ m.n
+graph_of m = record { n = m.n; waits = λ k j. has (get_or m.list k nobody).waits j; pages = λ k. (get_or m.list k nobody).pages }
 
 -- the cost that a group is handed on with is its own
 abbrev pub Prices : Movers → Priced → Type 0

@@ -2,3 +2,5 @@
 pub mod Graph
 -- the plan that is chosen, as it is computed
 pub mod Choice
+-- a mover as the program has it
+pub mod Mover

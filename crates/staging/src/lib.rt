@@ -1,23 +1,16 @@
 // Which of some movers are staged, where they wait for one another, and who goes next. A mover is a number below n, and a group of them is a
-// number too, with the binary digit for 2^k set if mover k is in it.
+// number too, with the binary digit for 2^k set if mover k is in it. It has no type of its own: `chosen` counts groups down as numbers.
 #![tactic(auto)]
+
+mod movers;
 
 ghost use Rattle.std.specs.Prelude.{◌≡◌, cond, ◌+◌, ◌*◌, ◌^◌, ◌≤◌, ◌<◌, eqb};
 ghost use Rattle.std.specs.Int.Bits.{bit_and, bit_or};
 ghost use Rattle.staging.specs.Graph.{joined, away};
-ghost use Rattle.staging.specs.Choice.{Few, graph_of, has as Spec·has, can_go?, next_of, order_of, works?, cost_of};
+ghost use Rattle.staging.specs.Choice.{graph_of, has as Spec·has, can_go?, next_of, below_it, order_of, works?, cost_of};
 ghost use Rattle.staging.specs.Choice.{free_of, cheaper_of, better_of, chosen_of, everyone, Prices};
 
-// The most movers that a call may have.
-pub const MOST: usize = 7;
-
-// Movers by falling tenant number: how many there are, the group that each waits for, and its pages.
-#[derive(Clone, Copy)]
-pub struct Movers {
-    pub n: usize,
-    pub waits: [u8; MOST],
-    pub pages: [u16; MOST],
-}
+pub use movers::{MOST, Mover, Movers};
 
 // Whether mover k is in the group.
 pub fn has(group: u8, k: usize) -> bool
@@ -32,7 +25,7 @@ fn single(k: usize) -> u8
     requires { k < 8 }
     ensures { result ≡ 2 ^ k }
 {
-    1u8 << k
+    1 << k
 }
 
 // The group with mover k.
@@ -66,82 +59,12 @@ fn apart(group: u8, other: u8) -> bool
     group & other == 0
 }
 
-// Whether mover k is still there and waits for nobody else who is.
-fn can_go(movers: Movers, away: u8, k: usize) -> bool
-    requires { (k < movers.n) × Few movers }
-    ensures { result ≡ can_go? (graph_of movers) (Spec·has away) k }
-{
-    if has(away, k) {
-        return false;
-    }
-    let waits = movers.waits;
-    within(waits[k], away)
-}
-
-// One more than the next to go, where some are away already; 0 if nobody can go.
-pub fn next(movers: Movers, away: u8) -> usize
-    requires { Few movers }
-    ensures { result ≡ next_of (graph_of movers) (Spec·has away) }
-{
-    let mut k = movers.n;
-    while 0 < k {
-        if can_go(movers, away, k - 1) {
-            return k;
-        }
-        k -= 1;
-    }
-    0
-}
-
-// Those who are away once all have gone that can, where a group is staged.
-fn all_gone(movers: Movers, staged: u8) -> u8
-    requires { Few movers }
-    ensures { Spec·has result ≡ away (Spec·has staged) (order_of (graph_of movers) (Spec·has staged)) }
-{
-    let mut away = staged;
-    let mut left = movers.n;
-    while 0 < left {
-        let k = next(movers, away);
-        if k == 0 {
-            return away;
-        }
-        away = with_mover(away, k - 1);
-        left -= 1;
-    }
-    away
-}
-
-// Whether everybody who is not staged can go.
-fn works(movers: Movers, staged: u8) -> bool
-    requires { Few movers }
-    ensures { result ≡ works? (graph_of movers) (Spec·has staged) }
-{
-    let n = movers.n;
-    within(all(n), all_gone(movers, staged))
-}
-
 // What a mover adds to the cost, if it is in the group: a page counts eight times as much as a tenant.
 fn price(pages: u16, staged: bool) -> u32
     ensures price { result ≡ cond staged (pages * 8 + 1) 0 }
     ensures bounded { result ≤ 524281 }
 {
-    if staged { (pages as u32) * 8 + 1 } else { 0 }
-}
-
-// What it costs to stage a group.
-fn cost(movers: Movers, group: u8) -> u32
-    requires { Few movers }
-    ensures { result ≡ cost_of (graph_of movers) (Spec·has group) }
-{
-    let pages = movers.pages;
-    let n = movers.n;
-    let mut sum: u32 = 0;
-    let mut k = 0;
-    while k < n {
-        sum += price(pages[k], has(group, k));
-        k += 1;
-    }
-    sum
+    if staged { u32::from(pages) * 8 + 1 } else { 0 }
 }
 
 // A group, and what it costs to stage it.
@@ -151,49 +74,100 @@ struct Priced {
     cost: u32,
 }
 
-// The group, if it costs less than the best one so far and everybody else can go; else the best one.
-fn cheaper(movers: Movers, group: u8, best: Priced) -> Priced
-    requires { Few movers × Prices movers best }
-    ensures group { result.group ≡ cheaper_of (graph_of movers) group best.group }
-    ensures cost { Prices movers result }
-{
-    let price = cost(movers, group);
-    if best.cost <= price {
-        return best;
+impl Movers {
+    // Whether mover k is still there and waits for nobody else who is.
+    fn can_go(self, away: u8, k: usize) -> bool
+        requires { k < self.n }
+        ensures { result ≡ can_go? (graph_of self) (Spec·has away) k }
+    {
+        !has(away, k) && within(self.list[k].waits, away)
     }
-    if works(movers, group) {
-        return Priced { group, cost: price };
-    }
-    best
-}
 
-// The same, but a group with somebody who need not be staged, since it can go anyhow, is not looked at further.
-fn better(movers: Movers, free: u8, group: u8, best: Priced) -> Priced
-    requires { Few movers × Prices movers best × (Spec·has free ≡ free_of (graph_of movers)) × (group < 2 ^ movers.n) }
-    ensures group { result.group ≡ better_of (graph_of movers) group best.group }
-    ensures cost { Prices movers result }
-{
-    if apart(group, free) {
-        return cheaper(movers, group, best);
+    // The next to go, where some are away already; None if nobody can go.
+    pub fn next(self, away: u8) -> Option<usize>
+        ensures { result ≡ below_it (next_of (graph_of self) (Spec·has away)) }
+    {
+        for k in (0..self.n).rev() {
+            if self.can_go(away, k) {
+                return Some(k);
+            }
+        }
+        None
     }
-    best
-}
 
-// The group to be staged: of those without which everybody else can go, the one with the fewest pages, then the fewest tenants, then the first
-// list of ascending tenant numbers, which is the highest number.
-pub fn chosen(movers: Movers) -> u8
-    requires { Few movers }
-    ensures { result ≡ chosen_of (graph_of movers) }
-{
-    let free = all_gone(movers, 0);
-    let mut group = all(movers.n);
-    let mut best = Priced {
-        group,
-        cost: cost(movers, group),
-    };
-    while 0 < group {
-        group -= 1;
-        best = better(movers, free, group, best);
+    // Those who are away once all have gone that can, where a group is staged.
+    fn all_gone(self, staged: u8) -> u8
+        ensures { Spec·has result ≡ away (Spec·has staged) (order_of (graph_of self) (Spec·has staged)) }
+    {
+        let mut away = staged;
+        for _ in 0..self.n {
+            let Some(k) = self.next(away) else {
+                break;
+            };
+            away = with_mover(away, k);
+        }
+        away
     }
-    best.group
+
+    // Whether everybody who is not staged can go.
+    fn works(self, staged: u8) -> bool
+        ensures { result ≡ works? (graph_of self) (Spec·has staged) }
+    {
+        within(all(self.n), self.all_gone(staged))
+    }
+
+    // What it costs to stage a group.
+    fn cost(self, group: u8) -> u32
+        ensures { result ≡ cost_of (graph_of self) (Spec·has group) }
+    {
+        let mut sum: u32 = 0;
+        for k in 0..self.n {
+            sum += price(self.list[k].pages, has(group, k));
+        }
+        sum
+    }
+
+    // The group, if it costs less than the best one so far and everybody else can go; else the best one.
+    fn cheaper(self, group: u8, best: Priced) -> Priced
+        requires { Prices self best }
+        ensures group { result.group ≡ cheaper_of (graph_of self) group best.group }
+        ensures cost { Prices self result }
+    {
+        let cost = self.cost(group);
+        if cost < best.cost && self.works(group) {
+            Priced { group, cost }
+        } else {
+            best
+        }
+    }
+
+    // The same, but a group with somebody who need not be staged, since it can go anyhow, is not looked at further.
+    fn better(self, free: u8, group: u8, best: Priced) -> Priced
+        requires { Prices self best × (Spec·has free ≡ free_of (graph_of self)) × (group < 2 ^ self.n) }
+        ensures group { result.group ≡ better_of (graph_of self) group best.group }
+        ensures cost { Prices self result }
+    {
+        if apart(group, free) {
+            self.cheaper(group, best)
+        } else {
+            best
+        }
+    }
+
+    // The group to be staged: of those without which everybody else can go, the one with the fewest pages, then the fewest tenants, then the
+    // first list of ascending tenant numbers, which is the highest number.
+    pub fn chosen(self) -> u8
+        ensures { result ≡ chosen_of (graph_of self) }
+    {
+        let free = self.all_gone(0);
+        let everyone = all(self.n);
+        let mut best = Priced {
+            group: everyone,
+            cost: self.cost(everyone),
+        };
+        for group in (0..everyone).rev() {
+            best = self.better(free, group, best);
+        }
+        best.group
+    }
 }

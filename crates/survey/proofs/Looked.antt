@@ -1,11 +1,10 @@
 -- Looking at the rows level by level from the root down.
-use mathlib.Core.Path.{◌≡◌, sym, ap, ◌∙◌}
+use mathlib.Core.Path.{◌≡◌, refl, sym, ap, ◌∙◌}
 use mathlib.Core.Bool.{Bool, true, false, ◌&&◌}
 use mathlib.Core.Logic.{⊎_elim}
 use mathlib.Core.List.{List}
 use Prim.Native.Nat.{ℕ, suc, ◌+◌, ◌-◌, ◌*◌, ◌^◌, ◌≤◌, ◌<◌}
 use native.Mathlib.Nat.{pow-suc}
-use native.Mathlib.Numerals.{add-one}
 use native.Mathlib.Omega.{arith}
 use lib.ListN.{length, get_or}
 use Rattle.layout.specs.Layout.{pages}
@@ -23,27 +22,24 @@ pub record Looked (h : ℕ) (L : Layout) (o : List ℕ) (l w : ℕ) : Type 0 whe
   pub first : w ≡ 2 ^ (suc h - l)
   pub rest : all_below l (level_owned h L o) ≡ rows_owned h L o
 
-pub looked_none : (h : ℕ) (L : Layout) (o : List ℕ) → Looked h L o (h + 1) 1
+pub looked_none : (h : ℕ) (L : Layout) (o : List ℕ) → Looked h L o (suc h) 1
 unfolding rows_owned
 looked_none h L o =
-    let none : suc h - (h + 1) ≡ 0 = omega arith in
-    record { inside = omega arith; first = rw none; rest = rw (add-one h) }
+    let none : suc h - suc h ≡ 0 = omega arith in
+    record { inside = omega arith; first = rw none; rest = refl }
 
 pub looked_all : {h : ℕ} {L : Layout} {o : List ℕ} {l w : ℕ} → l ≡ 0 → Looked h L o l w → true ≡ rows_owned h L o
 unfolding all_below
 looked_all {h} {L} {o} e k = rw e at k.rest
 
 -- the next level down, l
-module _ {h : ℕ} {L : Layout} {o : List ℕ} {m w : ℕ} (low : h ≤ 12) (long : length L.lone ≡ 13) (more : 0 < m) (k : Looked h L o m w) where
-  abbrev l : ℕ
-  l = m - 1
-
+module _ {h : ℕ} {L : Layout} {o : List ℕ} {l w : ℕ} (low : h ≤ 12) (long : length L.lone ≡ 13) (k : Looked h L o (suc l) w) where
   in_height : l ≤ h
   in_height = omega (arith, k.inside)
 
   first_is : w ≡ 2 ^ (h - l)
   first_is =
-      let depth : suc h - m ≡ h - l = omega (arith, k.inside) in
+      let depth : suc h - suc l ≡ h - l = omega arith in
       rw depth at k.first
 
   lone_is : get_or L.lone l 0 ≡ lone_at L l
@@ -55,8 +51,7 @@ module _ {h : ℕ} {L : Layout} {o : List ℕ} {m w : ℕ} (low : h ≤ 12) (lon
     unfolding all_below
     rest_is =
         let level_is : level_owned h L o l ≡ r = rw (← first_is, ← lone_is) (sym row) in
-        let next : m ≡ suc l = omega arith in
-        rw (next, level_is) at k.rest
+        rw level_is at k.rest
 
     pub looked_gap : r ≡ false → false ≡ rows_owned h L o
     looked_gap e = rw e at rest_is

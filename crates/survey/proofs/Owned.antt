@@ -52,7 +52,8 @@ module _ (o : List ℕ) (a n : ℕ) (inside : a + n ≤ length o) where
   unfolding run_owned
   run_owned_iff = (
     λ e k q.
-        sym (part_owned k q) ∙ all_pass (λ n. ltb 0 n) part (eqb-true (used_in part) n e ∙ sym (tally_of_all part ∙ length_part)) k (rw length_part q),
+        let all_used = eqb-true (used_in part) n e ∙ sym (tally_of_all part ∙ length_part) in
+        sym (part_owned k q) ∙ all_pass (λ n. ltb 0 n) part all_used k (rw length_part q),
     λ all.
         eq-eqb (used_in part) n
         (tally_agrees (λ n. ltb 0 n) (λ n. true) part (λ k q. let r : k < n = rw length_part at q in part_owned k r ∙ all k r)

@@ -1,11 +1,11 @@
 -- What a survey tells of a table in order: its counts, and who holds which node.
-use mathlib.Core.Path.{◌≡◌, sym, ap, ◌∙◌}
+use mathlib.Core.Path.{◌≡◌, refl, sym, ap, ◌∙◌}
 use mathlib.Core.Bool.{Bool, true, false}
 use mathlib.Core.List.{List}
 use Prim.Native.Nat.{ℕ, suc, ◌^◌, ◌≤◌}
 use lib.ListN.{length, replicate}
 use Rattle.table.specs.Table.{counts_of, in_order?}
-use Rattle.table.specs.Owners.{owners_of, level_counts}
+use Rattle.table.specs.Owners.{owners_of, stored_if, level_counts}
 use Rattle.table.proofs.Order.{in_order_iff}
 use Rattle.table.proofs.Owners.{below_of_nodes}
 use Rattle.survey.specs.Survey.{inside, finding_of, owners_found, Gathered}
@@ -17,6 +17,15 @@ pub record Surveyed (h : ℕ) (T o : List ℕ) (r : Finding) : Type 0 where
   pub order_tested : r.in_order ≡ in_order? h T
   pub counts : r.in_order ≡ true → r.counts.at ≡ counts_of h T
   pub owners : r.in_order ≡ true → o ≡ owners_of 8192 T
+
+-- what is stored over zeros, and what is then known of a table whose nodes are all in the tree
+pub stored_over_zeros : (h : ℕ) (T o o' : List ℕ) → o ≡ replicate 8192 0 → o' ≡ stored_if (inside h T) o T → o' ≡ owners_found h T
+stored_over_zeros h T o o' zeros stored = stored ∙ ap (λ (os : List ℕ). stored_if (inside h T) os T) zeros
+
+pub gathered_from : (h : ℕ) (T cs o : List ℕ) → h ≤ 12 → length T ≡ 4096 → inside h T ≡ true → o ≡ owners_found h T → cs ≡ level_counts h o
+    → Gathered h T cs o
+gathered_from h T cs o low entries below stored counted =
+    record { low = low; tenants = entries; below = below; owners = stored ∙ rw below; counts = counted }
 
 -- what is found where a node lies past the tree, and where none does
 pub found_past : (h : ℕ) (T cs : List ℕ) → h ≤ 12 → inside h T ≡ false → cs ≡ replicate 13 0
@@ -48,4 +57,4 @@ module _ (h : ℕ) (T : List ℕ) (low : h ≤ 12) (entries : length T ≡ 4096)
       order = ap (λ (f : Finding). f.in_order) found
 
       gathered : inside h T ≡ true → Gathered h T (level_counts h (owners_of 8192 T)) (owners_of 8192 T)
-      gathered i = record { low = low; tenants = entries; below = i; owners = λ _. owners_of 8192 T; counts = λ _. level_counts h (owners_of 8192 T) }
+      gathered i = record { low = low; tenants = entries; below = i; owners = refl; counts = refl }

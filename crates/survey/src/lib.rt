@@ -9,11 +9,12 @@ ghost use Rattle.table.specs.Table.{in_order?};
 ghost use Rattle.survey.specs.Owned.{row_owned, rows_owned};
 ghost use Rattle.survey.specs.Survey.{Gathered, finding_of, owners_found};
 
-use layout::{Counts, LEVELS, NONE};
+use layout::{Counts, NONE};
 use table::NODES;
 use table::passes::{level_counts, owners, used};
 
-// What a survey finds: whether the table is in order, and how many nodes of each level are held.
+// What a survey finds: whether the table is in order, and how many nodes of each level are held. The counts of a table out of order are
+// promised too.
 #[derive(Clone, Copy)]
 pub struct Finding {
     pub in_order: bool,
@@ -53,9 +54,7 @@ fn ordered(height: u16, table: &[u16], counts: Counts, owner: &[u16; NODES]) -> 
     if entries != nodes {
         return false;
     }
-    let room = layout::power(height) as u32;
-    let total = counts.total();
-    if room < total {
+    if u32::from(layout::power(height)) < counts.total() {
         return false;
     }
     // Each level has as many owners as the layout has nodes there: if all of those have an owner, no other node has one.
@@ -66,12 +65,9 @@ fn ordered(height: u16, table: &[u16], counts: Counts, owner: &[u16; NODES]) -> 
 fn held(counts: Counts) -> usize
     ensures { result ≡ sum 13 (λ (l : ℕ). get_or counts.at l 0) }
 {
-    let at = counts.at;
-    let mut sum: usize = 0;
-    let mut level: usize = 0;
-    while level < LEVELS {
-        sum += at[level] as usize;
-        level += 1;
+    let mut sum = 0;
+    for n in counts.at {
+        sum += usize::from(n);
     }
     sum
 }
@@ -81,17 +77,17 @@ fn settled(height: u16, counts: Counts, owner: &[u16; NODES]) -> bool
     requires { (height ≤ 12) × (pages counts.at ≤ 2 ^ height) }
     ensures { result ≡ rows_owned height (rows_of counts.at) owner.now }
 {
-    let nodes = &owner[..];
     let rows = counts.layout();
-    let starts = rows.start;
-    let runs = rows.run;
-    let lones = rows.lone;
     // Level by level from the root down: the first node of a level is twice that of the level above.
-    let mut level = (height as usize) + 1;
     let mut first = 1;
-    while 0 < level {
-        level -= 1;
-        if !level_settled(nodes, first, starts[level], runs[level], lones[level]) {
+    for level in (0..=usize::from(height)).rev() {
+        if !level_settled(
+            owner,
+            first,
+            rows.start[level],
+            rows.run[level],
+            rows.lone[level],
+        ) {
             return false;
         }
         first *= 2;
@@ -104,13 +100,13 @@ fn level_settled(nodes: &[u16], first: usize, start: u16, run: u16, lone: u16) -
     requires { (length nodes.now ≡ 8192) × (first + start + run ≤ 8192) × (lone < no_index → first + lone < 8192) }
     ensures { result ≡ row_owned nodes.now first start run lone }
 {
-    let from = first + start as usize;
-    let to = from + run as usize;
-    if used(&nodes[from..to]) != run as usize {
+    let from = first + usize::from(start);
+    let width = usize::from(run);
+    if used(&nodes[from..from + width]) != width {
         return false;
     }
     if lone == NONE {
         return true;
     }
-    nodes[first + lone as usize] != 0
+    nodes[first + usize::from(lone)] != 0
 }

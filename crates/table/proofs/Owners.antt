@@ -11,6 +11,7 @@ use lib.Bits.{bit_or, or_lt, or_add_and, and_le_l, and_le_r}
 use lib.ListN.{length, get_or, set, drop, replicate, drop_of_length-le, length-set, length-replicate, get_or-replicate, get_or-eq_default}
 use lib.Pow.{pow_pos}
 use lib.Seq.{drop-cons, get_or-set_same, get_or-set_other}
+use Rattle.std.specs.List.{fold}
 use Rattle.tree.proofs.Count.{equal_of_both_ways}
 use Rattle.table.specs.Table.{node_of, node_at, stands, occupied}
 use Rattle.table.specs.Pairing.{owner_of}
@@ -70,21 +71,14 @@ or_below k a b = equal_of_both_ways (ltb (bit_or a b) (2 ^ k)) (ltb a (2 ^ k) &&
         let both = (and-eq-true_iff (ltb a (2 ^ k)) (ltb b (2 ^ k))).0 e in
         lt-ltb (bit_or a b) (2 ^ k) (or_lt k a b (ltb-true a (2 ^ k) both.0) (ltb-true b (2 ^ k) both.1))
 
--- the bits of the entries before i, and the entries from i on, tell of all
-abbrev pub BitsBefore : List ℕ → ℕ → ℕ → Type 0
-BitsBefore T i bits = (k : ℕ) → (ltb bits (2 ^ k) && nodes_below (2 ^ k) (drop i T)) ≡ nodes_below (2 ^ k) T
-
-pub bits_of_none : (T : List ℕ) → BitsBefore T 0 0
-bits_of_none T k = rw (lt-ltb 0 (2 ^ k) (pow_pos k))
-
-pub bits_with_next : (T : List ℕ) (i bits : ℕ) → i < length T → BitsBefore T i bits → BitsBefore T (suc i) (bit_or bits (node_at T i))
+-- the bits of a number and of all entries after it
+pub bits_below : (k a : ℕ) (T : List ℕ) → ltb (fold bit_or a T) (2 ^ k) ≡ (ltb a (2 ^ k) && nodes_below (2 ^ k) T)
 unfolding nodes_below
-bits_with_next T i bits q before k =
-    rw (or_below k bits (node_at T i), and_assoc) (rw (drop-cons T i 0 q) at (before k))
+bits_below k a [] = rw and-true
+bits_below k a (x ∷ T) = bits_below k (bit_or a (node_of x)) T ∙ rw (or_below k a (node_of x), and_assoc)
 
-pub bits_of_all : (T : List ℕ) (i bits : ℕ) → length T ≤ i → BitsBefore T i bits → (k : ℕ) → ltb bits (2 ^ k) ≡ nodes_below (2 ^ k) T
-unfolding nodes_below
-bits_of_all T i bits q before k = rw (drop_of_length-le T q, and-true) at (before k)
+pub bits_of_all : (k : ℕ) (T : List ℕ) → ltb (fold bit_or 0 T) (2 ^ k) ≡ nodes_below (2 ^ k) T
+bits_of_all k T = bits_below k 0 T ∙ rw (lt-ltb 0 (2 ^ k) (pow_pos k))
 
 -- ---- who owns a node
 

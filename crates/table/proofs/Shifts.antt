@@ -132,7 +132,8 @@ module _ {h : ℕ} {S N : Nodes} (R : Room h S N) where
       shift_of_level l q (record { from = get_or (leavers h S N l) j 0; to = get_or (places h S N l) j 0 })
       (in_pair (leavers h S N l) (places h S N l) j r (omega (arith, enough_places l q)))
 
-  pub goes_in_turn : (l j : ℕ) → l ≤ h → j < length (leavers h S N l) → goes (shifts h S N) (get_or (leavers h S N l) j 0) ≡ get_or (places h S N l) j 0
+  pub goes_in_turn : (l j : ℕ) → l ≤ h → j < length (leavers h S N l)
+      → goes (shifts h S N) (get_or (leavers h S N l) j 0) ≡ get_or (places h S N l) j 0
   goes_in_turn l j q r = goes_with (record { from = get_or (leavers h S N l) j 0; to = get_or (places h S N l) j 0 }) (shift_in_turn l j q r)
 
   leaver_place : (n : ℕ) → S n ≡ true → ¬ (N n ≡ true)

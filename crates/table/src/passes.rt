@@ -1,29 +1,19 @@
 // Passes over the table by tenant, and over the owners by node: how many entries are used, who holds which node, and the nodes held by level.
 ghost use Rattle.std.specs.Prelude.{◌≡◌, true, ℕ, suc, ◌^◌, ◌≤◌, eqb, ltb, length};
-ghost use Rattle.tree.specs.Held.{one_if};
 ghost use Rattle.table.specs.Table.{tally};
 ghost use Rattle.table.specs.Owners.{nodes_below, owners_from, stored_if, used_in, level_counts};
 
 use crate::NODES;
 use layout::LEVELS;
 
-// One for an entry that is 0.
-fn one_if_zero(entry: u16) -> u16
-    ensures { result ≡ one_if (eqb entry 0) }
-{
-    if entry == 0 { 1 } else { 0 }
-}
-
-// How many entries are 0.
+// How many entries are 0, counted in 16 bits, of which the processor adds more at a time than of a count's.
 fn zeros(part: &[u16]) -> u16
     requires { length part.now ≤ 8192 }
     ensures { result ≡ tally (λ n. eqb n 0) part.now }
 {
     let mut n: u16 = 0;
-    let mut i = 0;
-    while i < part.len() {
-        n += one_if_zero(part[i]);
-        i += 1;
+    for entry in part {
+        n += u16::from(*entry == 0);
     }
     n
 }
@@ -33,20 +23,14 @@ pub fn used(part: &[u16]) -> usize
     requires { length part.now ≤ 8192 }
     ensures { result ≡ used_in part.now }
 {
-    part.len() - zeros(part) as usize
+    part.len() - usize::from(zeros(part))
 }
 
 // The bits that any entry has: a number that is below a power of two exactly if all entries are.
 fn any_bits(part: &[u16]) -> u16
     ensures { (k : ℕ) → ltb result (2 ^ k) ≡ nodes_below (2 ^ k) part.now }
 {
-    let mut bits: u16 = 0;
-    let mut i = 0;
-    while i < part.len() {
-        bits = bits | part[i];
-        i += 1;
-    }
-    bits
+    part.iter().fold(0, |bits, entry| bits | *entry)
 }
 
 // Stores each tenant's number and one at its node, in the tenants' order.
@@ -54,11 +38,8 @@ fn store(table: &[u16], owner: &mut [u16; NODES])
     requires { (length table.now ≤ 4096) × (nodes_below 8192 table.now ≡ true) }
     ensures { owner.new ≡ owners_from owner.old 0 table.now }
 {
-    let mut tenant = 0;
-    while tenant < table.len() {
-        let node = table[tenant] as usize;
-        owner[node] = (tenant as u16) + 1;
-        tenant += 1;
+    for (tenant, node) in table.iter().enumerate() {
+        owner[usize::from(*node)] = tenant as u16 + 1;
     }
 }
 
@@ -83,15 +64,12 @@ pub fn level_counts(height: u16, owner: &[u16; NODES]) -> [u16; LEVELS]
     requires { height ≤ 12 }
     ensures { result ≡ level_counts height owner.now }
 {
-    let nodes = &owner[..];
     let mut counts = [0u16; LEVELS];
     // Level by level from the root down: the first node of a level is twice that of the level above.
-    let mut level = (height as usize) + 1;
     let mut first = 1;
-    while 0 < level {
+    for level in (0..=usize::from(height)).rev() {
         let next = 2 * first;
-        level -= 1;
-        counts[level] = used(&nodes[first..next]) as u16;
+        counts[level] = used(&owner[first..next]) as u16;
         first = next;
     }
     counts

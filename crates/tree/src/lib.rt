@@ -11,16 +11,12 @@ pub fn depth(node: u16) -> u16
     if node == 0 {
         return 0;
     }
-    15 - (u16::leading_zeros(node) as u16)
+    node.ilog2() as u16
 }
 
 // The level of a node of a reserve of this height; 0 for a node that lies deeper.
 pub fn level(height: u16, node: u16) -> u16
     ensures { result ≡ Node.level height node }
 {
-    let d = depth(node);
-    if height < d {
-        return 0;
-    }
-    height - d
+    height.saturating_sub(depth(node))
 }

@@ -3,21 +3,24 @@ use mathlib.Core.Path.{◌≡◌, refl, sym, ap, ◌∙◌}
 use mathlib.Core.List.{List, [], ◌∷◌, ◌++◌, append_assoc}
 use Prim.Native.Nat.{ℕ, zero, suc, ◌+◌, ◌-◌, ◌≤◌, min}
 use native.Mathlib.Omega.{arith}
+use Rattle.std.proofs.lemmas.List.{take_min}
+use Rattle.std.proofs.Math.Nat.{min_comm}
+use Rattle.std.proofs.lemmas.Grind.{common_steps}
 use native.Mathlib.Nat.{add_assoc, min-le_left, min-le_right}
 use native.Mathlib.Numerals.{unary_clauses}
 use lib.ListN.{length, take, drop, length-append}
-use lib.Seq.{paste, take-nil, length-take-le, length-paste, take-paste, drop-paste, drop-drop}
+use lib.Seq.{paste, length-take-le, length-paste, take-paste, drop-paste, drop-drop}
 use Rattle.words.specs.Message.{Begins, Appended}
+use Rattle.words.specs.Writing.{Adds}
+use Rattle.words.specs.declared.Writer.{Writer}
 
 take_of_append : (n : ℕ) (s more : List ℕ) → take n (s ++ more) ≡ take n s ++ take (n - length (take n s)) more
 take_of_append zero s more = refl
 take_of_append (suc n) [] more = simp unary_clauses refl
 take_of_append (suc n) (x ∷ s) more = simp unary_clauses (ap (λ (l : List ℕ). x ∷ l) (take_of_append n s more))
 
-take_min : (n : ℕ) (s : List ℕ) → take (min (length s) n) s ≡ take n s
-take_min n [] = take-nil (min 0 n) ∙ sym (take-nil n)
-take_min zero (x ∷ s) = simp unary_clauses refl
-take_min (suc n) (x ∷ s) = simp unary_clauses (ap (λ (l : List ℕ). x ∷ l) (take_min n s))
+take_least : (n : ℕ) (s : List ℕ) → take (min (length s) n) s ≡ take n s
+take_least n s = ap (λ k. take k s) (min_comm (length s) n) ∙ take_min n s
 
 -- ---- two parts, the second behind the first
 
@@ -26,17 +29,17 @@ take_both : (room : ℕ) (s more : List ℕ) → let a = min (length s) room in
     take (min (length (s ++ more)) room) (s ++ more) ≡ take a s ++ take (min (length more) (room - a)) more
 take_both room s more =
     let a = min (length s) room in
-    take_min room (s ++ more)
+    take_least room (s ++ more)
     ∙ take_of_append room s more
-    ∙ ap (λ (l : List ℕ). l ++ take (room - length l) more) (sym (take_min room s))
+    ∙ ap (λ (l : List ℕ). l ++ take (room - length l) more) (sym (take_least room s))
     ∙ ap (λ (j : ℕ). take a s ++ take (room - j) more) (length-take-le a s (min-le_left (length s) room))
-    ∙ ap (λ (l : List ℕ). take a s ++ l) (sym (take_min (room - a) more))
+    ∙ ap (λ (l : List ℕ). take a s ++ l) (sym (take_least (room - a) more))
 
 min_both : (x y room : ℕ) → min x room + min y (room - min x room) ≡ min (x + y) room
 min_both x y room = omega arith
 
-pub appended_more : (s more before text after : List ℕ) (n k r : ℕ) → n ≤ length before → Appended n s before k text → Appended k more text r after
-    → Appended n (s ++ more) before r after
+appended_more : (s more before text after : List ℕ) (n k r : ℕ) → n ≤ length before
+    → Appended n s before k text → Appended k more text r after → Appended n (s ++ more) before r after
 appended_more s more before text after n k r within first second =
     let room = length before - n in
     let a = min (length s) room in
@@ -62,35 +65,15 @@ appended_more s more before text after n k r within first second =
           (add_assoc n a b ∙ ap (λ (j : ℕ). n + j) both);
     }
 
-pub begins_empty : (before : List ℕ) → Begins [] before 0 before
-begins_empty before = record { within = omega arith; counted = refl; bytes = sym (take-nil (length before)); rest = refl }
+-- what is put behind a first part is put behind both
+pub adds_more : {a b c : Writer} {s more : List ℕ} → Adds a s b → Adds b more c → Adds a (s ++ more) c
+adds_more {a} {b} {c} {s} {more} first second = record {
+  same_text = second.same_text ∙ first.same_text;
+  appended = appended_more s more a.text.now b.text.now c.text.now a.n b.n c.n a.within first.appended second.appended;
+}
 
-pub begins_more : (s more before text after : List ℕ) (n r : ℕ) → Begins s before n text → Appended n more text r after
-    → Begins (s ++ more) before r after
-begins_more s more before text after n r b a =
-    let room = length text - n in
-    let k = min (length more) room in
-    let fits : n + k ≤ length text = omega (arith, min-le_right (length more) room, b.within) in
-    let long : length after ≡ length text = ap length a.text ∙ length-paste text n more k fits (min-le_left (length more) room) in
-    let front : take n text ≡ take (length text) s = b.bytes in
-    let taken : n ≡ length (take (length text) s) = b.counted ∙ ap length front in
-    let within : r ≤ length after = omega (arith, a.count) in
-    record {
-      within = within;
-      counted = sym (length-take-le r after within);
-      bytes = ap (λ (j : ℕ). take j after) a.count
-          ∙ ap (take (n + k)) a.text
-          ∙ take-paste text n more k b.within (min-le_left (length more) room)
-          ∙ ap (λ (l : List ℕ). l ++ take k more) front
-          ∙ ap (λ (l : List ℕ). take (length text) s ++ l) (take_min room more)
-          ∙ ap (λ (j : ℕ). take (length text) s ++ take (length text - j) more) taken
-          ∙ sym (take_of_append (length text) s more)
-          ∙ ap (λ (j : ℕ). take j (s ++ more)) (sym long);
-      rest = ap (λ (j : ℕ). drop j after) a.count
-          ∙ ap (drop (n + k)) a.text
-          ∙ drop-paste text n more k b.within (min-le_left (length more) room)
-          ∙ sym (drop-drop k n text)
-          ∙ ap (drop k) b.rest
-          ∙ drop-drop k n before
-          ∙ ap (λ (j : ℕ). drop j before) (sym a.count);
-    }
+-- what is put to the start of lent bytes begins them
+pub begins : {a b : Writer} {s text : List ℕ} → Adds a s b → a.n ≡ 0 → text ≡ b.text.now → Begins s a.text.now b.n text
+begins {a} {b} {s} {text} first start e =
+    let at_start = rw start at first.appended in
+    rw e (grind (arith, common_steps, at_start.count, at_start.text))

@@ -2,14 +2,16 @@
 #![tactic(auto)]
 
 ghost use Rattle.std.specs.Prelude.{◌≡◌, ◌++◌, ◌≤◌, min, length};
+ghost use Rattle.refusal.specs.Number.{number_of};
 ghost use Rattle.lines.specs.Decimal.{decimal};
 ghost use Rattle.words.specs.Reason.{reason};
-ghost use Rattle.words.specs.Message.{cannot, said, refusal_at, why, refused_at, ends_at, not_taken_text, Begins, Appended};
+ghost use Rattle.words.specs.Message.{cannot, said, refusal_at, why, refused_at, ends_at, not_taken_text, Begins};
 ghost use Rattle.words.specs.File.{part_of};
 ghost use Rattle.words.specs.Word.{is_option, meaning_of};
 
+use journal::RefusedAt;
 use lines::text::Text;
-use refusal::{CUT_OFF, HEIGHT, NO_OPEN, OPEN_AGAIN, TOO_LONG, UNKNOWN_KIND};
+use refusal::Refusal;
 
 // What a word of the command line means, as long as the options have not ended.
 #[derive(Clone, Copy)]
@@ -28,63 +30,62 @@ pub enum Word {
 pub fn message(program: &[u8], deed: &[u8], thing: &[u8], text: &mut [u8]) -> usize
     ensures { Begins (cannot program.now deed.now thing.now) text.old result text.new }
 {
-    let n = append(text, 0, program);
-    let n = append(text, n, b": cannot ");
-    let n = append(text, n, deed);
-    let n = append(text, n, b" ");
-    append(text, n, thing)
+    let mut said = Writer { text, n: 0 };
+    said.cannot(program, deed, thing);
+    said.n
 }
 
 // The same with why the journal is refused, as a line.
-pub fn refusal(
-    program: &[u8],
-    deed: &[u8],
-    thing: &[u8],
-    number: u16,
-    offset: usize,
-    text: &mut [u8],
-) -> usize
-    ensures { Begins (refused_at program.now deed.now thing.now number offset) text.old result
-        text.new }
+pub fn refusal(program: &[u8], deed: &[u8], thing: &[u8], at: RefusedAt, text: &mut [u8]) -> usize
+    ensures { Begins (refused_at program.now deed.now thing.now (number_of at.refusal) at.offset) text.old
+        result text.new }
 {
-    let n = message(program, deed, thing, text);
-    append_why(text, n, number, offset)
+    let mut said = Writer { text, n: 0 };
+    said.cannot(program, deed, thing);
+    said.why(at);
+    said.n
 }
 
 // Puts why the listing of a journal has ended into lent bytes, in the same way, as a line.
-pub fn ending(program: &[u8], thing: &[u8], number: u16, offset: usize, text: &mut [u8]) -> usize
-    ensures { Begins (ends_at program.now thing.now number offset) text.old result text.new }
+pub fn ending(program: &[u8], thing: &[u8], at: RefusedAt, text: &mut [u8]) -> usize
+    ensures { Begins (ends_at program.now thing.now (number_of at.refusal) at.offset) text.old result text.new }
 {
-    let n = says(program, thing, text);
-    append_why(text, n, number, offset)
+    let mut said = Writer { text, n: 0 };
+    said.says(program, thing);
+    said.why(at);
+    said.n
 }
 
 // Puts what is wrong with a word of the command line into lent bytes, in the same way, as a line.
 pub fn objection(program: &[u8], fault: &[u8], word: &[u8], text: &mut [u8]) -> usize
     ensures { Begins (not_taken_text program.now fault.now word.now) text.old result text.new }
 {
-    let n = says(program, fault, text);
-    let n = append(text, n, b" ");
-    let n = append(text, n, word);
-    append(text, n, b"\n")
+    let mut said = Writer { text, n: 0 };
+    said.says(program, fault);
+    said.append(b" ");
+    said.append(word);
+    said.append(b"\n");
+    said.n
 }
 
 // Puts the name that a file has until it is whole into lent bytes, as far as there is room, and answers how many bytes it has there.
 pub fn part_name(name: &[u8], text: &mut [u8]) -> usize
     ensures { Begins (part_of name.now) text.old result text.new }
 {
-    let n = append(text, 0, name);
-    append(text, n, b".part")
+    let mut part = Writer { text, n: 0 };
+    part.append(name);
+    part.append(b".part");
+    part.n
 }
 
 // What a word means, as long as the options have not ended.
 pub fn meaning(word: &[u8]) -> Word
     ensures { result ≡ meaning_of word.now }
 {
-    if check::same(word, b"--") {
+    if word == b"--".as_slice() {
         return Word::EndOfOptions;
     }
-    if check::same(word, b"--help") {
+    if word == b"--help".as_slice() {
         return Word::Help;
     }
     if is_option(word) {
@@ -97,98 +98,81 @@ pub fn meaning(word: &[u8]) -> Word
 fn is_option(word: &[u8]) -> bool
     ensures { result ≡ is_option word.now }
 {
-    if word.len() < 2 {
-        return false;
+    matches!(word, [b'-', _, ..])
+}
+
+// A message in lent bytes, as far as there is room: the first `n` of them.
+#[derive(Drop)]
+struct Writer<'a> {
+    text: &'a mut [u8],
+    n: usize,
+    ghost within: { n ≤ length text.now },
+}
+
+impl Writer<'_> {
+    ghost use Rattle.words.specs.Writing.{Adds};
+
+    // Puts what a program could not do, and to what, to the end of the message.
+    fn cannot(&mut self, program: &[u8], deed: &[u8], thing: &[u8])
+        ensures { Adds self.old (cannot program.now deed.now thing.now) self.new }
+    {
+        self.append(program);
+        self.append(b": cannot ");
+        self.append(deed);
+        self.append(b" ");
+        self.append(thing);
     }
-    word[0] == b'-'
-}
 
-// Puts the first words that a program says into lent bytes, in the same way.
-fn says(program: &[u8], what: &[u8], text: &mut [u8]) -> usize
-    ensures { Begins (said program.now what.now) text.old result text.new }
-{
-    let n = append(text, 0, program);
-    let n = append(text, n, b": ");
-    append(text, n, what)
-}
+    // Puts the first words that a program says to the end of the message.
+    fn says(&mut self, program: &[u8], what: &[u8])
+        ensures { Adds self.old (said program.now what.now) self.new }
+    {
+        self.append(program);
+        self.append(b": ");
+        self.append(what);
+    }
 
-// Puts why a journal is refused, in words and by number and offset, to the end of a line, as `append` does.
-fn append_why(text: &mut [u8], n: usize, number: u16, offset: usize) -> usize
-    requires { n ≤ length text.old }
-    ensures { Appended n (why number offset) text.old result text.new }
-{
-    let n = append(text, n, b": ");
-    let n = append_reason(text, n, number);
-    append_refusal(text, n, number, offset)
-}
+    // Puts why a journal is refused, in words and by number and offset, to the end of a line.
+    fn why(&mut self, at: RefusedAt)
+        ensures { Adds self.old (why (number_of at.refusal) at.offset) self.new }
+    {
+        self.append(b": ");
+        self.append(reason(at.refusal));
+        self.number(b", refusal ", usize::from(u16::from(at.refusal)));
+        self.number(b" at offset ", at.offset);
+        self.append(b"\n");
+    }
 
-// Puts the words for a refusal after the first `n` bytes of the text, as `append` does.
-fn append_reason(text: &mut [u8], n: usize, number: u16) -> usize
-    requires { n ≤ length text.old }
-    ensures { Appended n (reason number) text.old result text.new }
-{
-    match number {
-        HEIGHT => append(text, n, b"the height is above 12"),
-        NO_OPEN => append(
-            text,
-            n,
-            b"the journal is empty, or its first record is no open",
-        ),
-        UNKNOWN_KIND => append(text, n, b"a record of unknown kind"),
-        CUT_OFF => append(text, n, b"the journal ends inside a record"),
-        OPEN_AGAIN => append(text, n, b"an open record that is not the first"),
-        TOO_LONG => append(text, n, b"the journal has more than 65,536 bytes"),
-        _ => append(text, n, b"the journal is refused"),
+    // Puts what a number is and then the number itself, in decimal, to the end of the message.
+    fn number(&mut self, what: &[u8], number: usize)
+        ensures { Adds self.old (what.now ++ decimal number) self.new }
+    {
+        self.append(what);
+        let digits = Text::empty().decimal(number);
+        self.append(&digits.bytes[..digits.n]);
+    }
+
+    // Puts `more` to the end of the message, as far as there is room.
+    fn append(&mut self, more: &[u8])
+        ensures { Adds self.old more.now self.new }
+    {
+        let end = self.n + more.len().min(self.text.len() - self.n);
+        self.text[self.n..end].copy_from_slice(&more[..end - self.n]);
+        self.n = end;
     }
 }
 
-// Puts the number of a refusal and the offset that it concerns to the end of a line, as `append` does.
-fn append_refusal(text: &mut [u8], n: usize, number: u16, offset: usize) -> usize
-    requires { n ≤ length text.old }
-    ensures { Appended n (refusal_at number offset) text.old result text.new }
+// The words for a refusal of a journal.
+fn reason(refusal: Refusal) -> &'static [u8]
+    ensures { result.now ≡ reason (number_of refusal) }
 {
-    let number = number as usize;
-    let n = append_number(text, n, b", refusal ", number);
-    let n = append_number(text, n, b" at offset ", offset);
-    append(text, n, b"\n")
-}
-
-// Puts what a number is and then the number itself after the first `n` bytes of the text, as `append` does.
-fn append_number(text: &mut [u8], n: usize, what: &[u8], number: usize) -> usize
-    requires { n ≤ length text.old }
-    ensures { Appended n (what.now ++ decimal number) text.old result text.new }
-{
-    let n = append(text, n, what);
-    append_decimal(text, n, number)
-}
-
-// Puts a number in decimal after the first `n` bytes of the text, as `append` does.
-fn append_decimal(text: &mut [u8], n: usize, number: usize) -> usize
-    requires { n ≤ length text.old }
-    ensures { Appended n (decimal number) text.old result text.new }
-{
-    let digits = Text::empty().decimal(number);
-    let count = digits.n;
-    let bytes = digits.bytes;
-    append(text, n, &bytes[..count])
-}
-
-// Puts `more` after the first `n` bytes of the text, as far as there is room, and answers how many bytes there are then.
-fn append(text: &mut [u8], n: usize, more: &[u8]) -> usize
-    requires { n ≤ length text.old }
-    ensures { Appended n more.now text.old result text.new }
-{
-    let k = least(more.len(), text.len() - n);
-    let mut i = 0;
-    while i < k {
-        text[n + i] = more[i];
-        i += 1;
+    match refusal {
+        Refusal::Height => b"the height is above 12",
+        Refusal::NoOpen => b"the journal is empty, or its first record is no open",
+        Refusal::UnknownKind => b"a record of unknown kind",
+        Refusal::CutOff => b"the journal ends inside a record",
+        Refusal::OpenAgain => b"an open record that is not the first",
+        Refusal::TooLong => b"the journal has more than 65,536 bytes",
+        _ => b"the journal is refused",
     }
-    n + k
-}
-
-fn least(a: usize, b: usize) -> usize
-    ensures { result ≡ min a b }
-{
-    if a < b { a } else { b }
 }

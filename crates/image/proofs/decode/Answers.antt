@@ -1,6 +1,6 @@
 -- `image::decode` meets its contract.
-use Rattle.std.proofs.Common.{zero-le, ◌≡◌, sym, ◌∙◌, ◌*◌, length, length-set, arith}
-use Rattle.std.proofs.Math.Seq.{take_all}
+use Rattle.std.proofs.Common.{zero-le, sym, ◌∙◌, ◌*◌, length, arith}
+use Rattle.std.proofs.Math.Seq.{take-length}
 use borrow.Author.Tests.{eq-eqb, ne_eqb}
 use Rattle.image.proofs.Images.{lent_as_none, lent_as_all, decoded_more, decoded_all}
 use Rattle.image.proofs.decode.Goals as goal
@@ -14,23 +14,14 @@ returns-then-image-numbers c =
 
 pub loop-i-preserved : goal.loop-i-preserved
 loop-i-preserved c =
-    let s = c.args.image.now in
-    let numbers = c.loop-i.numbers in
-    let i = c.loop-i.i in (
-      omega arith,
-      rw c.word.ensures (decoded_more s numbers i c.loop-i.invariant.1 (omega arith) (omega arith)),
-      length-set numbers i c.word.result ∙ c.loop-i.invariant.2,
-    )
+    rw c.word.ensures (decoded_more c.args.image.now c.loop-i.numbers c.loop-i.i c.loop-i.invariant (omega arith) (omega arith))
 
 pub returns : goal.returns
 returns c =
     let s = c.args.image.now in
     let numbers = c.loop-i.numbers in
-    let i = c.loop-i.i in
-    let all : i ≡ length numbers = omega (arith, c.loop-i.invariant.2) in
-    let whole : length s ≡ 2 * length numbers = omega (arith, c.loop-i.invariant.2) in
-    let same = decoded_all s numbers i all whole c.loop-i.invariant.1 in
+    let same = decoded_all s numbers c.loop-i.i (omega arith) (omega arith) c.loop-i.invariant in
     record {
-      front = record { few = omega arith; front = take_all i numbers (omega arith) ∙ same ∙ sym (lent_as_all (length numbers) s whole) };
-      numbers = rw (eq-eqb (length s) (2 * length c.args.numbers.now) (omega (arith, c.loop-i.invariant.2))) same;
+      front = record { few = omega arith; front = take-length numbers ∙ same ∙ sym (lent_as_all (length numbers) s (omega arith)) };
+      numbers = rw (eq-eqb (length s) (2 * length c.args.numbers.now) c.if-image-numbers.false) same;
     }

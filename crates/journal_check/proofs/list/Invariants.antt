@@ -2,5 +2,5 @@
 use Rattle.std.proofs.Common.{length, ◌-◌}
 use Rattle.journal_check.proofs.list.Given as goal
 
-abbrev pub decreases-loop-record : goal.decreases-loop-record
-decreases-loop-record l = length l.journal - l.offset
+abbrev pub decreases-loop-found : goal.decreases-loop-found
+decreases-loop-found l = length l.journal - l.offset

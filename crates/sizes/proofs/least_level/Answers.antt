@@ -2,25 +2,21 @@
 use mathlib.Core.Path.{sym}
 use Prim.Native.Nat.{◌+◌, ◌-◌, zero-le}
 use native.Mathlib.Omega.{arith}
+use native.Mathlib.Nat.{pow-suc}
 use Rattle.tree.specs.Node.{depth}
-use Rattle.tree.proofs.Highest.{leading_depth}
+use Rattle.tree.proofs.Highest.{depth_is}
 use Rattle.sizes.proofs.Level.{least_level_is, least_by_depth}
 use Rattle.sizes.proofs.least_level.Goals as goal
 
 pub returns-then-pages-le1 : goal.returns-then-pages-le1
-returns-then-pages-le1 c = sym (least_level_is c.before.args.pages 0 (record { enough = omega arith; smallest = λ m q. zero-le }))
-
-pub overflow_cast-result : goal.overflow_cast-result
-overflow_cast-result c = record { fits = omega (arith, leading_depth 32 (c.before.args.pages - 1) (omega arith) (omega arith)) }
-
-pub overflow_sub-result-2 : goal.overflow_sub-result-2
-overflow_sub-result-2 c = omega (arith, leading_depth 32 (c.before.args.pages - 1) (omega arith) (omega arith))
+returns-then-pages-le1 c = sym (least_level_is c.args.pages 0 (record { enough = omega arith; smallest = λ m q. zero-le }))
 
 pub returns : goal.returns
 returns c =
-    let p = c.before.args.pages in
+    let p = c.args.pages in
+    let d = c.ilog2.result in
     omega (
       arith,
-      leading_depth 32 (p - 1) (omega arith) (omega arith),
+      depth_is d (p - 1) (record { low = omega arith; high = omega (arith, pow-suc 2 d) }),
       least_level_is p (depth (p - 1) + 1) (least_by_depth p (omega arith)),
     )

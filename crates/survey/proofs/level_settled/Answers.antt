@@ -36,26 +36,22 @@ not_zero_is_positive (suc v) =
     let some : ¬ (suc v ≡ 0) = omega arith in
     rw (ne_eqb (suc v) 0 some, lt-ltb 0 (suc v) (omega arith))
 
-pub returns-then-used-run : goal.returns-then-used-run
-returns-then-used-run c =
+pub returns-then-used-width : goal.returns-then-used-width
+returns-then-used-width c =
     let a = c.args in
-    row-with-gap a.nodes.now a.first a.start a.run a.lone c.used.result c.used.ensures c.if-used-run.true
+    rw (← c.from.ensures, ← c.from-width.ensures)
+    (row-with-gap a.nodes.now a.first c.from.result c.from-width.result a.lone c.used.result c.used.ensures c.if-used-width.true)
 
 pub returns-then-lone-eq-NONE : goal.returns-then-lone-eq-NONE
 returns-then-lone-eq-NONE c =
     let a = c.args in
-    row-without-lone a.nodes.now a.first a.start a.run a.lone c.used.result c.used.ensures
-    c.if-used-run.false c.if-lone-eq-NONE.true
-
-pub bounds-nodes-first : goal.bounds-nodes-first
-bounds-nodes-first c =
-    let pre = c.requires in
-    omega (arith, pre.2 (omega arith))
+    rw (← c.from.ensures, ← c.from-width.ensures)
+    (row-without-lone a.nodes.now a.first c.from.result c.from-width.result a.lone c.used.result c.used.ensures c.if-used-width.false
+    c.if-lone-eq-NONE.true)
 
 pub returns : goal.returns
 returns c =
     let a = c.args in
-    let used = c.used in
-    not_zero_is_positive (get_or a.nodes.now (a.first + a.lone) 0)
-    ∙ row-with-lone a.nodes.now a.first a.start a.run a.lone used.result used.ensures
-    c.if-used-run.false c.if-lone-eq-NONE.false
+    let lone_is = row-with-lone a.nodes.now a.first c.from.result c.from-width.result a.lone c.used.result c.used.ensures
+    c.if-used-width.false c.if-lone-eq-NONE.false in
+    rw (c.from-2.ensures, ← c.from.ensures, ← c.from-width.ensures) (not_zero_is_positive (get_or a.nodes.now (a.first + a.lone) 0) ∙ lone_is)

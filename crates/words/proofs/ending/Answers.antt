@@ -1,6 +1,7 @@
 -- `ending` meets its contract: the reason is put behind the name.
-use Rattle.words.proofs.Messages.{begins_more}
+use Rattle.std.proofs.Common.{refl, rules}
+use Rattle.words.proofs.Messages.{adds_more, begins}
 use Rattle.words.proofs.ending.Goals as goal
 
 pub returns : goal.returns
-returns c = begins_more _ _ _ _ _ _ _ c.says-n.ensures c.append_why.ensures
+returns c = begins (adds_more c.says.ensures c.why.ensures) refl (search rules)

@@ -1,8 +1,7 @@
 -- `part_name` meets its contract: the ending is put to the end of the name.
-use Rattle.words.proofs.Messages.{begins_empty, begins_more}
+use Rattle.std.proofs.Common.{refl, rules}
+use Rattle.words.proofs.Messages.{adds_more, begins}
 use Rattle.words.proofs.part_name.Goals as goal
 
 pub returns : goal.returns
-returns c =
-    let name = begins_more _ _ _ _ _ _ _ (begins_empty _) c.append-n.ensures in
-    begins_more _ _ _ _ _ _ _ name c.append.ensures
+returns c = begins (adds_more c.append.ensures c.append-2.ensures) refl (search rules)

@@ -1,77 +1,38 @@
 -- `granting::grant::grant` meets its contract: what the line refuses, and else what the table does.
-use mathlib.Core.Path.{◌≡◌, sym, ap, ◌∙◌}
-use mathlib.Core.Bool.{true}
-use native.Mathlib.Omega.{arith}
-use Rattle.line.specs.Order.{line_in_order?}
-use Rattle.rules.specs.Call.{Call, tenant_of}
+use mathlib.Core.Path.{refl, sym, ap, ◌∙◌}
+use Rattle.std.proofs.lemmas.Result.{err_from_is_err_and}
+use Rattle.refusal.specs.declared.Refusal.TheVariants.{NotInOrder}
+use Rattle.refusal.proofs.Numbers.{not_zero}
 use Rattle.rules.specs.Value.{call_of}
 use Rattle.calls.proofs.Calling.{same_tenant}
-use Rattle.admission.specs.Call.{State}
+use Rattle.admission.specs.Call.{direct}
 use Rattle.admission.specs.Value.{lent}
 use Rattle.granting.specs.Inner.{line_number}
 use Rattle.admission.proofs.Arguments.{disorder_of_line}
-use Rattle.granting.proofs.Behind.{refusal_given, arguments_lengths, arguments_tenant, form_of_line, first_of_disorder, first_of_line}
+use Rattle.granting.proofs.Behind.{refusal_given, form_of_line, first_of_disorder, first_of_line}
 use Rattle.granting.proofs.grant.grant.Goals as goal
-
-pub in_order-requires : goal.in_order-requires
-in_order-requires c =
-    let state_of : State = lent c.args.table.now c.args.line.now in
-    let call_in : Call = call_of c.args.call 7 in
-    let s = c in
-    let l = arguments_lengths s.args.height (state_of) (call_in) s.requires.asks.0 s.requires.asks.1 s.requires.arguments in
-    (l.entries, l.numbers)
 
 pub returns-then-not-in_order : goal.returns-then-not-in_order
 returns-then-not-in_order c =
-    let state_of : State = lent c.args.table.now c.args.line.now in
-    let call_in : Call = call_of c.args.call 7 in
-    let s = c in
-    let out = disorder_of_line s.args.height (state_of) (sym c.in_order.ensures ∙ c.if-not-in_order.true) in
-    refusal_given s.args.height (state_of) _ 7
-    (first_of_disorder s.args.height (state_of) (call_in) s.requires.asks.0 s.requires.asks.1 s.requires.arguments out)
-    (λ e. omega arith) (c.refused.ensures s.args.table.now)
+    let a = c.args in
+    let S = lent a.table.now a.line.now in
+    let out = disorder_of_line a.height S (sym c.in_order.ensures ∙ c.if-not-in_order.true) in
+    let number = first_of_disorder a.height S (call_of a.call 7) c.requires.asks c.requires.arguments out in
+    refusal_given a.height S (direct (call_of a.call 7)) NotInOrder number
 
-pub line_refusal-number-requires : goal.line_refusal-number-requires
-line_refusal-number-requires c =
-    let state_of : State = lent c.args.table.now c.args.line.now in
-    let call_in : Call = call_of c.args.call 7 in
-    let in_order : let s = c in line_in_order? s.args.height s.args.table.now s.args.line.now ≡ true = sym c.in_order.ensures ∙ c.if-not-in_order.false in
-    let tenant_is : c.tenant.result ≡ tenant_of (call_in) = let a = c.args in
-    c.tenant.ensures ∙ sym (same_tenant a.height a.table.now 7 a.call) in
-    let z = c in
-    let s = c in
-    let l = arguments_lengths s.args.height (state_of) (call_in) s.requires.asks.0 s.requires.asks.1 s.requires.arguments in
-    let below = arguments_tenant s.args.height (state_of) (call_in) s.requires.asks.0 s.requires.asks.1 s.requires.arguments in record { tenant = omega (arith, tenant_is, l.entries); form = form_of_line s.args.height (state_of) (call_in) s.requires.asks.0 s.requires.asks.1 s.requires.arguments (in_order) }
+pub line_refusal-requires-clause-form : goal.line_refusal-requires-clause-form
+line_refusal-requires-clause-form c =
+    form_of_line _ _ (call_of c.args.call 7) c.requires.arguments (sym c.in_order.ensures ∙ c.if-not-in_order.false)
 
-pub returns-then-number-ne0 : goal.returns-then-number-ne0
-returns-then-number-ne0 c =
-    let state_of : State = lent c.args.table.now c.args.line.now in
-    let call_in : Call = call_of c.args.call 7 in
-    let in_order : let s = c in line_in_order? s.args.height s.args.table.now s.args.line.now ≡ true = sym c.in_order.ensures ∙ c.if-not-in_order.false in
-    let tenant_is : c.tenant.result ≡ tenant_of (call_in) = let a = c.args in
-    c.tenant.ensures ∙ sym (same_tenant a.height a.table.now 7 a.call) in
-    let by_line : let s = c in
-    c.line_refusal-number.result ≡ line_number (state_of) (tenant_of (call_in)) = let s = c in
-    c.line_refusal-number.ensures ∙ ap (line_number (state_of)) (tenant_is) in
-    let x = c in
-    let z = c in
-    let s = c in
-    let k = x.line_refusal-number.result in
-    refusal_given s.args.height (state_of) _ k
-    (first_of_line s.args.height (state_of) (call_in) s.requires.asks.0 s.requires.asks.1 s.requires.arguments (in_order)
-    s.requires.looked.in_order k (by_line) c.if-number-ne0.true)
-    c.if-number-ne0.true (c.refused-then-number-ne0.ensures s.args.table.now)
-
-pub give-requires : goal.give-requires
-give-requires c =
-    let in_order : let s = c in line_in_order? s.args.height s.args.table.now s.args.line.now ≡ true = sym c.in_order.ensures ∙ c.if-not-in_order.false in
-    let state_of : State = lent c.args.table.now c.args.line.now in
-    let call_in : Call = call_of c.args.call 7 in
-    let tenant_is : c.tenant.result ≡ tenant_of (call_in) = let a = c.args in
-    c.tenant.ensures ∙ sym (same_tenant a.height a.table.now 7 a.call) in
-    let by_line : let s = c in
-    c.line_refusal-number.result ≡ line_number (state_of) (tenant_of (call_in)) = let s = c in
-    c.line_refusal-number.ensures ∙ ap (line_number (state_of)) (tenant_is) in
-    let x = c in
-    let z = c in
-    let s = c in record { asks = s.requires.asks; looked = s.requires.looked; unopposed = record { arguments = s.requires.arguments; line = in_order; clear = sym (by_line) ∙ c.if-number-ne0.false } }
+pub returns-in_err-line_refusal : goal.returns-in_err-line_refusal
+returns-in_err-line_refusal c =
+    let p = err_from_is_err_and c.from_residual.result c.from_residual.ensures.1 in
+    let a = c.args in
+    let r = c.requires in
+    let S = lent a.table.now a.line.now in
+    let e = c.in_err-line_refusal.field-0.0 in
+    let by_line = c.in_err-line_refusal.ensures
+    ∙ ap (line_number S) (c.tenant.ensures ∙ sym (same_tenant a.height a.table.now 7 a.call)) in
+    let number = first_of_line a.height S (call_of a.call 7) r.asks r.arguments (sym c.in_order.ensures ∙ c.if-not-in_order.false)
+    r.looked.in_order _ by_line (not_zero e _ refl) in
+    rw (p.1, p.2) (refusal_given a.height S (direct (call_of a.call 7)) e number)

@@ -1,23 +1,16 @@
 -- `layout::Climb::risen` meets its contract, by the three cases of going up.
-use mathlib.Core.Path.{refl, sym, ap, ◌∙◌}
-use borrow.Author.Rules.{rules}
-use Rattle.layout.specs.Layout.{rise}
-use Rattle.layout.proofs.Climbing.{state_full, state_lone, rise_full_up, rise_lone_even, rise_lone_odd}
+use mathlib.Core.Path.{sym}
+use Rattle.layout.proofs.Climbing.{rise_full_up, rise_lone_even, rise_lone_odd}
+use Rattle.layout.proofs.Climb.risen.Goals.{in_default-via-in-Some+else-self-eq0 as settled, in_default-via-in_default as none}
 use Rattle.layout.proofs.Climb.risen.Goals as goal
 
-pub returns-then-self-eq-NONE : goal.returns-then-self-eq-NONE
-returns-then-self-eq-NONE c =
-    let m = c.args.self in
-    (state_full _ refl ∙ sym (ap rise (state_full m c.if-self-eq-NONE.true) ∙ rise_full_up m.before), search rules)
+pub returns-in-Some : goal.returns-in-Some
+returns-in-Some c = rw c.in-Some.is (sym (rise_lone_even c.args.self.before _ _ c.if-self-eq0.true))
 
-pub returns-then-rest-eq0 : goal.returns-then-rest-eq0
-returns-then-rest-eq0 c =
-    let m = c.args.self in
-    let d = c.if-self-eq-NONE.false in
-    (state_lone _ d ∙ sym (ap rise (state_lone m d) ∙ rise_lone_even m.before m.level m.down c.if-rest-eq0.true), search rules)
-
-pub returns : goal.returns
-returns c =
-    let m = c.args.self in
-    let d = c.if-self-eq-NONE.false in
-    (state_full _ refl ∙ sym (ap rise (state_lone m d) ∙ rise_lone_odd m.before m.level m.down c.if-rest-eq0.false), search rules)
+pub returns-in_default : goal.returns-in_default
+returns-in_default c =
+    let v = c.args.self.before in
+    elim c.in_default.branch [
+      | settled w ↦ rw (c.div_ceil.ensures, w.in-Some.is) (sym (rise_lone_odd v _ _ w.if-self-eq0.false))
+      | none w ↦ rw (c.div_ceil.ensures, w.in_default.is) (sym (rise_full_up v))
+    ]

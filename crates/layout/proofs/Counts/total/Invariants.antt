@@ -1,7 +1,7 @@
 -- `layout::Counts::total` meets its contract: at each level the sum and the pages from there on make all of them.
 use mathlib.Core.Path.{◌≡◌}
 use mathlib.Core.List.{List}
-use Prim.Native.Nat.{ℕ, ◌+◌, ◌-◌, ◌*◌, ◌^◌, ◌≤◌}
+use Prim.Native.Nat.{ℕ, ◌+◌, ◌*◌, ◌^◌, ◌≤◌}
 use lib.ListN.{drop}
 use Rattle.layout.specs.Layout.{pages, pages_from}
 use Rattle.layout.proofs.Counts.total.Given as goal
@@ -13,8 +13,5 @@ pub record Summed (cs : List ℕ) (sum size l : ℕ) : Type 0 where
   pub rest : sum + pages_from l (drop l cs) ≡ pages cs
   pub bound : sum + 65535 ≤ 65535 * 2 ^ l
 
-abbrev pub invariant-loop-level : goal.invariant-loop-level
-invariant-loop-level l = Summed l.at l.sum l.size l.level
-
-abbrev pub decreases-loop-level : goal.decreases-loop-level
-decreases-loop-level l = 13 - l.level
+abbrev pub invariant-loop-count : goal.invariant-loop-count
+invariant-loop-count l = Summed l.count-items l.sum l.size l.count-index

@@ -1,21 +1,22 @@
 -- `layout::Layout::node` meets its contract, by the cases in which there is no such node.
 use mathlib.Core.Path.{◌≡◌, sym, ap₂, ◌∙◌}
-use Prim.Native.Nat.{ℕ, ◌+◌, ◌-◌}
+use mathlib.Core.Logic.{inl, inr}
+use Prim.Native.Nat.{ℕ, ◌+◌}
 use native.Mathlib.Omega.{arith}
 use borrow.Author.Rules.{rules}
 use lib.ListN.{length}
 use Rattle.layout.specs.Rows.{kth_node, index_at}
-use Rattle.layout.proofs.Bounds.{power_le_4096}
 use Rattle.layout.proofs.RowCases.{index_at_level, no_node_too_high, no_node_above_root, no_node_past, node_inside}
 use Rattle.layout.proofs.Layout.node.Goals as goal
 
 pub returns-then-height-gt-MAX_HEIGHT : goal.returns-then-height-gt-MAX_HEIGHT
 unfolding kth_node
-returns-then-height-gt-MAX_HEIGHT c = let a = c.args in sym (no_node_too_high a.height a.level _ c.if-height-gt-MAX_HEIGHT.true)
-
-pub returns-then-height-level : goal.returns-then-height-level
-unfolding kth_node
-returns-then-height-level c = let a = c.args in sym (no_node_above_root a.height a.level _ c.if-height-level.true)
+returns-then-height-gt-MAX_HEIGHT c =
+    let a = c.args in
+    elim c.then-height-gt-MAX_HEIGHT.either [
+      | inl p ↦ sym (no_node_too_high a.height a.level _ p)
+      | inr p ↦ sym (no_node_above_root a.height a.level _ p.1)
+    ]
 
 pub returns-then-nodes-i : goal.returns-then-nodes-i
 unfolding kth_node
@@ -23,12 +24,7 @@ returns-then-nodes-i c =
     let a = c.args in
     let long : ◌≡◌ {A = ℕ} (length a.self.lone) 13 = search rules in
     let found = c.kth_index-i.ensures ∙ index_at_level a.self a.level a.k (omega arith) in
-    sym (no_node_past a.height a.level _ (omega (arith, found, c.power-nodes.ensures)))
-
-pub overflow_cast-result : goal.overflow_cast-result
-overflow_cast-result c =
-    let a = c.args in
-    omega (arith, c.power-nodes.ensures, power_le_4096 (a.height - a.level) (omega arith))
+    sym (no_node_past a.height a.level _ (omega (arith, found)))
 
 pub returns : goal.returns
 unfolding kth_node
@@ -36,6 +32,6 @@ returns c =
     let a = c.args in
     let long : ◌≡◌ {A = ℕ} (length a.self.lone) 13 = search rules in
     let found = c.kth_index-i.ensures ∙ index_at_level a.self a.level a.k (omega arith) in
-    let first = c.power-nodes.ensures in
+    let first = c.from-nodes.ensures ∙ c.power.ensures in
     let i = index_at a.self a.level a.k in
     ap₂ ◌+◌ first found ∙ sym (node_inside a.height a.level i (omega arith) (omega arith) (omega arith))

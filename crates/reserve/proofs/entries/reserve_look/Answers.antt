@@ -8,13 +8,14 @@ use Rattle.reserve.proofs.entries.reserve_look.Goals as goal
 pub returns-then-table : goal.returns-then-table
 returns-then-table c =
     let a = c.args in
-    c.no_entry.ensures ∙ sym (no_table a.table.now a.tenant c.if-table.true)
+    c.from.ensures ∙ sym (no_table a.table.now a.tenant c.if-table.true)
 
 pub returns-then-t-ge-TENANTS : goal.returns-then-t-ge-TENANTS
 returns-then-t-ge-TENANTS c =
     let x = c in
     let a = x.args in
-    c.no_entry-then-t-ge-TENANTS.ensures ∙ sym (no_tenant a.table.now a.tenant (omega (arith, x.if-table.false)) (omega (arith, c.if-t-ge-TENANTS.true)))
+    c.from-then-t-ge-TENANTS.ensures
+    ∙ sym (no_tenant a.table.now a.tenant (omega (arith, x.if-table.false)) (omega (arith, c.if-t-ge-TENANTS.true)))
 
 pub returns : goal.returns
 returns c =

@@ -8,7 +8,7 @@ use Rattle.reserve.proofs.levels.reserve_level_of_pages.Goals as goal
 pub returns-then-height-gt-MAX_HEIGHT : goal.returns-then-height-gt-MAX_HEIGHT
 returns-then-height-gt-MAX_HEIGHT c =
     let a = c.args in
-    c.no_level.ensures ∙ sym (level_above_12 a.height a.pages c.if-height-gt-MAX_HEIGHT.true)
+    c.from.ensures ∙ sym (level_above_12 a.height a.pages c.if-height-gt-MAX_HEIGHT.true)
 
 pub returns-then-power-pages : goal.returns-then-power-pages
 returns-then-power-pages c =
@@ -16,7 +16,7 @@ returns-then-power-pages c =
     let a = x.args in
     let low : a.height ≤ 12 = omega (arith, x.if-height-gt-MAX_HEIGHT.false) in
     let many : 2 ^ a.height ≤ a.pages = omega (arith, x.power.ensures, c.if-power-pages.true) in
-    c.no_level-then-power-pages.ensures ∙ sym (level_of_too_many a.height a.pages low many)
+    c.from-then-power-pages.ensures ∙ sym (level_of_too_many a.height a.pages low many)
 
 pub returns : goal.returns
 returns c =

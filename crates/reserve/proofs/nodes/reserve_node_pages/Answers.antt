@@ -10,12 +10,12 @@ use Rattle.reserve.proofs.nodes.reserve_node_pages.Goals as goal
 pub returns-then-height-gt-MAX_HEIGHT : goal.returns-then-height-gt-MAX_HEIGHT
 returns-then-height-gt-MAX_HEIGHT c =
     let a = c.args in
-    c.no_pages.ensures ∙ sym (pages_above_12 a.height a.node c.if-height-gt-MAX_HEIGHT.true)
+    c.from.ensures ∙ sym (pages_above_12 a.height a.node c.if-height-gt-MAX_HEIGHT.true)
 
 pub returns-then-node-eq0 : goal.returns-then-node-eq0
 returns-then-node-eq0 c =
     let a = c.args in
-    c.no_pages-then-node-eq0.ensures ∙ sym (pages_of_zero a.height a.node (omega (arith, c.if-height-gt-MAX_HEIGHT.false)) c.if-node-eq0.true)
+    c.from-then-node-eq0.ensures ∙ sym (pages_of_zero a.height a.node (omega (arith, c.if-height-gt-MAX_HEIGHT.false)) c.if-node-eq0.true)
 
 pub returns-then-height-d : goal.returns-then-height-d
 returns-then-height-d c =
@@ -24,7 +24,7 @@ returns-then-height-d c =
     let low : a.height ≤ 12 = omega (arith, x.if-height-gt-MAX_HEIGHT.false) in
     let above : 0 < a.node = omega (arith, c.if-node-eq0.false) in
     let deep : a.height < depth a.node = omega (arith, c.if-height-d.true, c.depth-d.ensures) in
-    c.no_pages-then-height-d.ensures ∙ sym (pages_past_tree a.height a.node low above (past_tree_by_depth a.height a.node above deep))
+    c.from-then-height-d.ensures ∙ sym (pages_past_tree a.height a.node low above (past_tree_by_depth a.height a.node above deep))
 
 pub overflow_sub-index : goal.overflow_sub-index
 overflow_sub-index c =

@@ -1,0 +1,8 @@
+-- `Writer::cannot` meets its contract: each part is put to the end of those before it.
+use Rattle.words.proofs.Messages.{adds_more}
+use Rattle.words.proofs.Writer.cannot.Goals as goal
+
+pub returns : goal.returns
+returns c =
+    let deed = adds_more (adds_more c.append.ensures c.append-2.ensures) c.append-3.ensures in
+    adds_more (adds_more deed c.append-4.ensures) c.append-5.ensures
