@@ -2,7 +2,7 @@
 use mathlib.Core.Path.{◌≡◌, sym, ◌∙◌}
 use mathlib.Core.Bool.{Bool, true, false, not, ◌&&◌, and-false}
 use mathlib.Core.List.{List, [], ◌∷◌, ◌++◌}
-use Prim.Native.Nat.{ℕ, ◌≤◌}
+use Prim.Native.Nat.{ℕ, ◌≤◌, ◌<◌}
 use native.Mathlib.Omega.{arith}
 use borrow.Author.Tests.{ltb-false, le-ltb, eqb-true, eq-eqb, not-false}
 use lib.Dec.{eqb, ltb}
@@ -75,3 +75,9 @@ module _ (h : ℕ) (S : State) (xs rest : List Check) (numbered : Numbered xs) w
 
     pub rest_passed : first rest ≡ 0
     rest_passed = rest_zero 7 (not (ordered h S)) rest (omega arith) both.1
+
+-- a tenant's number that has passed 4
+pub tenant_passed : (h n m t : ℕ) (ys : List Check) → first (lent_checks h n m ++ check 4 (ltb 4095 t) ∷ ys) ≡ 0 → t < 4096
+tenant_passed h n m t ys e =
+    let later = (both_zero (lent_checks h n m) (check 4 (ltb 4095 t) ∷ ys) (lent_numbered h n m) e).1 in
+    omega (arith, ltb-false 4095 t (not_applied 4 (ltb 4095 t) ys (omega arith) later))

@@ -19,7 +19,7 @@ use Rattle.rules.specs.Step.{Check, check, first, level_check}
 use Rattle.rules.proofs.Checks.{Numbered, not_applied, rest_zero}
 use Rattle.admission.specs.Call.{State, join, withdraw}
 use Rattle.admission.specs.Step.{reserve_checks, checks}
-use Rattle.admission.proofs.Arguments.{Lengths, lengths_passed, ordered, rest_decides, arguments_passed, order_passed, rest_passed}
+use Rattle.admission.proofs.Arguments.{Lengths, lengths_passed, tenant_passed, ordered, rest_decides, arguments_passed, order_passed, rest_passed}
 
 -- the line of a state that has passed 2 and 7
 pub line_ordered : (h : ℕ) (S : State) → length S.line ≡ 193 → ordered h S ≡ true → LineInOrder h S.table S.line
@@ -44,6 +44,9 @@ join_numbered h S t l = (omega arith, (omega arith, (omega arith, (omega arith, 
 module _ (h : ℕ) (S : State) (t l : ℕ) (none : first (join_arguments h S t l) ≡ 0) where
   pub join_lengths : Lengths h (length S.table) (length S.line)
   join_lengths = lengths_passed h (length S.table) (length S.line) (check 4 (ltb 4095 t) ∷ level_check h l ∷ []) none
+
+  pub join_tenant : t < 4096
+  join_tenant = tenant_passed h (length S.table) (length S.line) t (level_check h l ∷ []) none
 
   -- to one that holds nothing and does not wait, only a full line is a refusal
   pub join_by_count : ordered h S ≡ true → node_at S.table t ≡ 0 → waits t (waiting_in S.line) ≡ false

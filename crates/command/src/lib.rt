@@ -8,9 +8,8 @@ mod system;
 mod whole;
 
 ghost use Rattle.std.specs.Prelude.{◌≤◌, length};
-ghost use Rattle.command.specs.Whole.{Within};
+ghost use Rattle.command.specs.Whole.{Counts, Within};
 
-use journal::RefusedAt;
 use std::env::FillError;
 use std::io::Read;
 use std::rt::Env;
@@ -34,8 +33,8 @@ impl Program<'_> {
     // Whether the program has work to do. The first option among its arguments decides: if it is --help, the help goes to standard output, and any
     // other is named on standard error, before the usage. So is the first operand that is too many.
     pub fn has_work(&self) -> bool {
-        let end = self.end_of_operands(self.arg_count());
-        match self.meaning_of(end) {
+        let end = end_of_operands(self.rt, arg_count(self.rt));
+        match meaning_of(self.rt, end) {
             Word::Help => self.give_help(),
             Word::UnknownOption => self.object_to(end, b"unknown option"),
             _ => self.has_operands(),
@@ -51,15 +50,16 @@ impl Program<'_> {
     // Says what is wrong with argument `i`, and how the program is used; there is no other work to do.
     fn object_to(&self, i: usize, fault: &[u8]) -> bool {
         let mut word = [0u8; WORD];
-        self.object(fault, self.word(i, &mut word));
+        let n = put_word(self.rt, i, &mut word);
+        self.object(fault, &word[..n]);
         false
     }
 
     // Whether there are not too many operands, or names on standard error the first that is.
     fn has_operands(&self) -> bool {
-        let words = self.arg_count();
+        let words = arg_count(self.rt);
         if self.most < words {
-            let surplus = self.place_of(self.most + 1);
+            let surplus = place_of(self.rt, self.most + 1);
             if surplus < words {
                 return self.object_to(surplus, b"unexpected argument");
             }
@@ -67,59 +67,12 @@ impl Program<'_> {
         true
     }
 
-    // How many arguments the program was started with, its own name among them.
-    fn arg_count(&self) -> usize {
-        for i in 0..usize::MAX {
-            if let Err(FillError::NotPresent) = self.rt.arg(i, &mut []) {
-                return i;
-            }
-        }
-        usize::MAX
-    }
-
-    // The first of so many words that is no operand, after the program's name: an option, or `--`. If there is none, that is the first that is
-    // missing.
-    fn end_of_operands(&self, words: usize) -> usize {
-        for i in 1..words {
-            if !matches!(self.meaning_of(i), Word::Operand) {
-                return i;
-            }
-        }
-        words.max(1)
-    }
-
-    // What argument `i` means if no `--` comes before it. One that is missing is an operand.
-    fn meaning_of(&self, i: usize) -> Word {
-        let mut word = [0u8; WORD];
-        words::meaning(self.word(i, &mut word))
-    }
-
-    // Which argument operand `i` is, one that is missing if there is no such operand: `--` is passed over.
-    fn place_of(&self, i: usize) -> usize {
-        let words = self.arg_count();
-        if i < words && i >= self.end_of_operands(words) {
-            return i + 1;
-        }
-        i
-    }
-
-    // Operand `i`, which is put into the buffer; if there is none, `-`, which names standard input. The operands are the arguments but for the first
-    // `--`, behind which none is an option.
+    // Operand `i`, as the function `argument` puts it into the buffer.
     pub fn argument<'t>(&self, i: usize, text: &'t mut [u8]) -> &'t [u8]
         ensures { length result.now ≤ length text.entry.now }
     {
-        self.word(self.place_of(i), text)
-    }
-
-    // Argument `i`, which is put into the buffer, or `-` if there is none. Of what is longer than the buffer come the first bytes.
-    fn word<'t>(&self, i: usize, text: &'t mut [u8]) -> &'t [u8]
-        ensures { length result.now ≤ length text.entry.now }
-    {
-        match self.rt.arg(i, text) {
-            Ok(n) => &text[..n],
-            Err(FillError::NotPresent) if text.len() > 0 => b"-",
-            Err(_) => text,
-        }
+        let n = argument(self.rt, i, text);
+        &text[..n]
     }
 
     // Reads the file of that name, or standard input for `-`, into a lent buffer, as `read_all` does, and answers how many bytes it has there; or
@@ -141,14 +94,15 @@ impl Program<'_> {
         self.or_complain(b"read", name, read_all(source, buf))
     }
 
-    // Says on standard error why the listing of the journal in the file of that name, or on standard input for `-`, has ended.
-    pub fn explain_end(&self, name: &[u8], at: RefusedAt) {
-        self.explain(input_of(name), at);
+    // Says on standard error why the listing of the journal in the file of that name, or on standard input for `-`, has ended. Here and in
+    // `refuse_input` the number may be any, as in `words`.
+    pub fn explain_end(&self, name: &[u8], number: u16, offset: usize) {
+        self.explain(input_of(name), number, offset);
     }
 
     // Says on standard error why nothing is done with the journal in the file of that name, or on standard input for `-`.
-    pub fn refuse_input(&self, deed: &[u8], name: &[u8], at: RefusedAt) {
-        self.refuse(deed, input_of(name), at);
+    pub fn refuse_input(&self, deed: &[u8], name: &[u8], number: u16, offset: usize) {
+        self.refuse(deed, input_of(name), number, offset);
     }
 
     // Writes all of the bytes to the file of that name, as `write_file` does, or to standard output for `-`, which it then closes.
@@ -157,6 +111,74 @@ impl Program<'_> {
             self.write_file(name, bytes);
         } else if self.write_output(bytes) {
             self.close_output();
+        }
+    }
+}
+
+// How many arguments the program was started with, its own name among them.
+fn arg_count(env: &impl Env) -> usize {
+    for i in 0..usize::MAX {
+        if let Err(FillError::NotPresent) = env.arg(i, &mut []) {
+            return i;
+        }
+    }
+    usize::MAX
+}
+
+// The first of so many words that is no operand, after the program's name: an option, or `--`. If there is none, that is the first that is missing.
+fn end_of_operands(env: &impl Env, words: usize) -> usize {
+    for i in 1..words {
+        if !matches!(meaning_of(env, i), Word::Operand) {
+            return i;
+        }
+    }
+    words.max(1)
+}
+
+// What argument `i` means if no `--` comes before it. One that is missing is an operand.
+fn meaning_of(env: &impl Env, i: usize) -> Word {
+    let mut word = [0u8; WORD];
+    let n = put_word(env, i, &mut word);
+    words::meaning(&word[..n])
+}
+
+// Which argument operand `i` is, one that is missing if there is no such operand: `--` is passed over.
+fn place_of(env: &impl Env, i: usize) -> usize {
+    let words = arg_count(env);
+    if i < words && i >= end_of_operands(env, words) {
+        return i + 1;
+    }
+    i
+}
+
+// Puts operand `i` at the start of the buffer and answers its length; if there is none, `-`, which names standard input. The operands are the
+// arguments but for the first `--`, behind which none is an option. No method of `Program`, which runs on one system: this takes any environment.
+pub fn argument(env: &impl Env, i: usize, text: &mut [u8]) -> usize
+    ensures { Counts result text.new }
+{
+    put_word(env, place_of(env, i), text)
+}
+
+// Puts argument `i` at the start of the buffer and answers its length, or `-` if there is none. Of what is longer than the buffer come the first bytes.
+fn put_word(env: &impl Env, i: usize, text: &mut [u8]) -> usize
+    ensures { Counts result text.new }
+{
+    match env.arg(i, text) {
+        Ok(n) => n,
+        Err(FillError::NotPresent) => put_dash(text),
+        Err(FillError::TooLong) => text.len(),
+    }
+}
+
+// Puts `-` at the start of the text and answers its length, 0 if the text has no room for it.
+fn put_dash(text: &mut [u8]) -> usize
+    ensures { Counts result text.new }
+{
+    match text {
+        [] => 0,
+        [first, ..] => {
+            *first = b'-';
+            1
         }
     }
 }

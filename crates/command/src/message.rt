@@ -4,7 +4,6 @@ ghost use Rattle.std.specs.Fn.{FnOnceReturnsAtMut};
 
 use crate::Program;
 use crate::whole::write_all;
-use journal::RefusedAt;
 use std::io::{Cursor, Write};
 use std::{io, str};
 
@@ -45,13 +44,13 @@ impl Program<'_> {
     }
 
     // Says what the program could not do with a journal, and why: "PROGRAM: cannot DEED THING: REASON, refusal NUMBER at offset OFFSET".
-    pub(crate) fn refuse(&self, deed: &[u8], thing: &[u8], at: RefusedAt) {
-        self.say_what(|text| words::refusal(self.name, deed, thing, at, text));
+    pub(crate) fn refuse(&self, deed: &[u8], thing: &[u8], number: u16, offset: usize) {
+        self.say_what(|text| words::refusal(self.name, deed, thing, number, offset, text));
     }
 
     // Says why the listing of a journal has ended: "PROGRAM: THING: REASON, refusal NUMBER at offset OFFSET".
-    pub(crate) fn explain(&self, thing: &[u8], at: RefusedAt) {
-        self.say_what(|text| words::ending(self.name, thing, at, text));
+    pub(crate) fn explain(&self, thing: &[u8], number: u16, offset: usize) {
+        self.say_what(|text| words::ending(self.name, thing, number, offset, text));
     }
 
     // Says what is wrong with a word of the command line, "PROGRAM: FAULT WORD", and how the program is used.

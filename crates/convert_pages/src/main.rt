@@ -39,7 +39,7 @@ fn convert_whole(convert_pages: &Program, old: &[u8], journal: &[u8]) {
     let mut out = [0u8; 65537];
     match conversion::convert(journal, &mut out) {
         Ok(length) => write(convert_pages, &out[..length]),
-        Err(at) => convert_pages.refuse_input(b"convert", old, at),
+        Err(at) => { convert_pages.refuse_input(b"convert", old, u16::from(at.refusal), at.offset) }
     }
 }
 

@@ -2,6 +2,8 @@
 // writes records and prints the bytes. The file stdout holds what documents 01 and 02 say of them.
 #![tactic(auto)]
 
+ghost use Rattle.std.specs.Prelude.{◌≤◌, ◌<◌};
+
 use journal::{Found, Record, RefusedAt};
 use std::io;
 
@@ -58,17 +60,24 @@ fn ends(rt: &HostRuntime) {
 
 // The most bytes that a journal has, and one more, with and without an open.
 fn limits(rt: &HostRuntime) {
-    let mut most = [0u8; 65536];
-    list(rt, &most);
-    most[0] = 1;
-    list(rt, &most);
-    let mut more = [0u8; 65537];
-    list(rt, &more);
-    more[0] = 1;
-    list(rt, &more);
+    zeros::<65536>(rt);
+    zeros::<65537>(rt);
+}
+
+// A journal of N zeros, and then with an open in front. This and `offsets` stay out of line: in line their arrays would stand in one frame, beside one
+// another.
+#[inline(never)]
+fn zeros<const N: usize>(rt: &HostRuntime)
+    requires { (0 < N) × (N ≤ 65537) }
+{
+    let mut journal = [0u8; N];
+    list(rt, &journal);
+    journal[0] = 1;
+    list(rt, &journal);
 }
 
 // Offsets at a record, inside one, at the end and past it; and past the end of journals that 11 and 16 refuse.
+#[inline(never)]
 fn offsets(rt: &HostRuntime) {
     let journal = b"\x01\x02\x04\x07\x00";
     for offset in 0..7 {

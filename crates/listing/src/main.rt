@@ -50,7 +50,7 @@ fn list_whole(listing: &Program, name: &[u8], journal: &[u8]) {
         && listing.close_output()
         && let Err(at) = conversion::judge(journal)
     {
-        listing.explain_end(name, at);
+        listing.explain_end(name, u16::from(at.refusal), at.offset);
     }
 }
 

@@ -84,6 +84,15 @@ module _ (a : ℕ) (xs : List ℕ) where
       elsewhere : (p : ℕ) → ¬ (p ≡ i) → flag_at i p ≡ flag_at (suc i) p
       elsewhere p d = rw (same_between a i p a (suc i) p (λ r. omega arith) (λ r. omega arith))
 
+  -- ranges whose ends make no difference to the pages that there are
+  pub filled_same : (i b : ℕ) → ((p : ℕ) → p < length xs → (Between a i p → Between a b p) × (Between a b p → Between a i p))
+      → filled a i xs ≡ filled a b xs
+  unfolding filled
+  filled_same i b same =
+      tabulate_cong 0 (length xs) λ p q r.
+      let both_ways = same p (omega arith) in
+      ap (λ (t : Bool). cond t 1 (get_or xs p 0)) (same_between a i p a b p both_ways.0 both_ways.1)
+
   filled_run : (i : ℕ) → a + i ≤ length xs → paste xs a (replicate i 1) i ≡ filled a (a + i) xs
   filled_run zero q = sym (paste_none xs a []) ∙ sym filled_none ∙ ap (λ (b : ℕ). filled a b xs) (sym (add-zero a))
   filled_run (suc i) q =

@@ -2,16 +2,26 @@
 #![tactic(auto)]
 
 ghost use Rattle.std.specs.Prelude.{◌≡◌, ◌++◌, ◌≤◌, min, length};
-ghost use Rattle.refusal.specs.Number.{number_of};
 ghost use Rattle.lines.specs.Decimal.{decimal};
 ghost use Rattle.words.specs.Reason.{reason};
 ghost use Rattle.words.specs.Message.{cannot, said, refusal_at, why, refused_at, ends_at, not_taken_text, Begins};
 ghost use Rattle.words.specs.File.{part_of};
 ghost use Rattle.words.specs.Word.{is_option, meaning_of};
 
-use journal::RefusedAt;
 use lines::text::Text;
 use refusal::Refusal;
+
+const HEIGHT: u16 = Refusal::Height as u16;
+
+const NO_OPEN: u16 = Refusal::NoOpen as u16;
+
+const UNKNOWN_KIND: u16 = Refusal::UnknownKind as u16;
+
+const CUT_OFF: u16 = Refusal::CutOff as u16;
+
+const OPEN_AGAIN: u16 = Refusal::OpenAgain as u16;
+
+const TOO_LONG: u16 = Refusal::TooLong as u16;
 
 // What a word of the command line means, as long as the options have not ended.
 #[derive(Clone, Copy)]
@@ -35,24 +45,31 @@ pub fn message(program: &[u8], deed: &[u8], thing: &[u8], text: &mut [u8]) -> us
     said.n
 }
 
-// The same with why the journal is refused, as a line.
-pub fn refusal(program: &[u8], deed: &[u8], thing: &[u8], at: RefusedAt, text: &mut [u8]) -> usize
-    ensures { Begins (refused_at program.now deed.now thing.now (number_of at.refusal) at.offset) text.old
-        result text.new }
+// The same with why the journal is refused, as a line. Here and in `ending` the number may be any: no RefusedAt, which has only those of refusals.
+pub fn refusal(
+    program: &[u8],
+    deed: &[u8],
+    thing: &[u8],
+    number: u16,
+    offset: usize,
+    text: &mut [u8],
+) -> usize
+    ensures { Begins (refused_at program.now deed.now thing.now number offset) text.old result
+        text.new }
 {
     let mut said = Writer { text, n: 0 };
     said.cannot(program, deed, thing);
-    said.why(at);
+    said.why(number, offset);
     said.n
 }
 
 // Puts why the listing of a journal has ended into lent bytes, in the same way, as a line.
-pub fn ending(program: &[u8], thing: &[u8], at: RefusedAt, text: &mut [u8]) -> usize
-    ensures { Begins (ends_at program.now thing.now (number_of at.refusal) at.offset) text.old result text.new }
+pub fn ending(program: &[u8], thing: &[u8], number: u16, offset: usize, text: &mut [u8]) -> usize
+    ensures { Begins (ends_at program.now thing.now number offset) text.old result text.new }
 {
     let mut said = Writer { text, n: 0 };
     said.says(program, thing);
-    said.why(at);
+    said.why(number, offset);
     said.n
 }
 
@@ -133,13 +150,13 @@ impl Writer<'_> {
     }
 
     // Puts why a journal is refused, in words and by number and offset, to the end of a line.
-    fn why(&mut self, at: RefusedAt)
-        ensures { Adds self.old (why (number_of at.refusal) at.offset) self.new }
+    fn why(&mut self, number: u16, offset: usize)
+        ensures { Adds self.old (why number offset) self.new }
     {
         self.append(b": ");
-        self.append(reason(at.refusal));
-        self.number(b", refusal ", usize::from(u16::from(at.refusal)));
-        self.number(b" at offset ", at.offset);
+        self.append(reason(number));
+        self.number(b", refusal ", usize::from(number));
+        self.number(b" at offset ", offset);
         self.append(b"\n");
     }
 
@@ -162,17 +179,17 @@ impl Writer<'_> {
     }
 }
 
-// The words for a refusal of a journal.
-fn reason(refusal: Refusal) -> &'static [u8]
-    ensures { result.now ≡ reason (number_of refusal) }
+// The words for a journal's refusal with this number.
+fn reason(number: u16) -> &'static [u8]
+    ensures { result.now ≡ reason number }
 {
-    match refusal {
-        Refusal::Height => b"the height is above 12",
-        Refusal::NoOpen => b"the journal is empty, or its first record is no open",
-        Refusal::UnknownKind => b"a record of unknown kind",
-        Refusal::CutOff => b"the journal ends inside a record",
-        Refusal::OpenAgain => b"an open record that is not the first",
-        Refusal::TooLong => b"the journal has more than 65,536 bytes",
+    match number {
+        HEIGHT => b"the height is above 12",
+        NO_OPEN => b"the journal is empty, or its first record is no open",
+        UNKNOWN_KIND => b"a record of unknown kind",
+        CUT_OFF => b"the journal ends inside a record",
+        OPEN_AGAIN => b"an open record that is not the first",
+        TOO_LONG => b"the journal has more than 65,536 bytes",
         _ => b"the journal is refused",
     }
 }
